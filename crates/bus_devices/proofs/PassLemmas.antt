@@ -11,16 +11,16 @@ use Rattle.image_parts.proofs.RecordLemmas.{asked_in_turn, asked_none}
 use Rattle.image_parts.specs.Asking.{Asking, Answer, Seen, outcome, reads}
 use Rattle.image_parts.specs.Record.{IsAsked}
 use Rattle.image_parts.specs.Each.{each}
-use Rattle.bus_devices.specs.Blocks.{AreBlocksOf, IsBlockOf}
+use Rattle.bus_devices.specs.Blocks.{AreBlocksOf, IsBlockOf, block_sleeps}
 use Rattle.bus_devices.specs.declared.block.Block.{Block}
 use Rattle.bus_devices.proofs.BlockLemmas.{both_of, length_each, outcome_append, reads_append}
 use Rattle.bus_devices.proofs.IdleLemmas.{idle}
 use Rattle.co_device.specs.Device.{Device}
 use Rattle.image_parts.specs.Contents.{Content, Image}
 use Rattle.image_parts.specs.declared.part.Part.{Part}
-use Rattle.device_agenda.specs.Agenda.{at_instant, sleeps_through}
+use Rattle.device_agenda.specs.Agenda.{at_instant}
 use Rattle.device_agenda.specs.Delivered.{Delivered}
-use Rattle.device_agenda.proofs.SleepLemmas.{nothing_happens}
+use Rattle.device_agenda.proofs.SleepLemmas.{nothing_reaches}
 use Rattle.device_pdos.proofs.LookLemmas.{all_both}
 
 -- ---- they do nothing
@@ -35,19 +35,20 @@ module _ (t : ℕ) (delivered : Option Delivered) (bound : IfSome delivered (λ 
   none_at_all m (d ∷ ds) e = absurd cc
 
   pub all_idle_in : (n m : ℕ) (blocks : List Block) (ds : List Device) → m ≡ 8 * n → AreBlocksOf blocks ds
-      → AllByRecursion (λ b. sleeps_through t delivered b.outlook.agenda ≡ true) (take n blocks) → Idle (take m ds)
+      → AllByRecursion (λ b. block_sleeps t delivered b ≡ true) (take n blocks) → Idle (take m ds)
   all_idle_in zero m blocks ds e h asleep = rw e tt
   all_idle_in (suc n) m [] ds e h asleep = none_at_all m ds h
   all_idle_in (suc n) m (b ∷ blocks) ds e h asleep =
       let more : m ≡ 8 + 8 * n = omega (arith, e) in
       subst Idle (sym (ap (λ (k : ℕ). take k ds) more ∙ take-add {A = Device} 8 (8 * n) ds))
       (all_both (λ d. at_instant t delivered d ≡ Answer d) (take 8 ds) (take (8 * n) (drop 8 ds))
-      (nothing_happens b.outlook.agenda (take 8 ds) t delivered bound h.0.outlook.agenda asleep.0)
+      (nothing_reaches b.outlook.agenda b.low_bytes (take 8 ds) t delivered bound h.0.outlook.agenda h.0.low_bytes
+      asleep.0)
       (all_idle_in n (8 * n) blocks (drop 8 ds) refl h.1 asleep.1))
 
 pub idle_first : (t : ℕ) (delivered : Option Delivered) (n m : ℕ) (blocks : List Block) (ds : List Device)
     → (0 < n → IfSome delivered (λ d. d.frame.id < 0x800)) → m ≡ 8 * n → AreBlocksOf blocks ds
-    → AllByRecursion (λ b. sleeps_through t delivered b.outlook.agenda ≡ true) (take n blocks)
+    → AllByRecursion (λ b. block_sleeps t delivered b ≡ true) (take n blocks)
     → AllByRecursion (λ d. at_instant t delivered d ≡ Answer d) (take m ds)
 idle_first t delivered zero m blocks ds bound e h asleep = rw e tt
 idle_first t delivered (suc n) m blocks ds bound e h asleep =
@@ -88,11 +89,11 @@ none_left (b ∷ blocks) rest e h = absurd (omega (arith, e))
 -- ---- one more
 
 pub one_more_asleep : (t : ℕ) (delivered : Option Delivered) (blocks : List Block) (i : ℕ) (d : Block) → i < length blocks
-    → sleeps_through t delivered (get_or blocks i d).outlook.agenda ≡ true
-    → AllByRecursion (λ b. sleeps_through t delivered b.outlook.agenda ≡ true) (take i blocks)
-    → AllByRecursion (λ b. sleeps_through t delivered b.outlook.agenda ≡ true) (take (i + 1) blocks)
+    → block_sleeps t delivered (get_or blocks i d) ≡ true
+    → AllByRecursion (λ b. block_sleeps t delivered b ≡ true) (take i blocks)
+    → AllByRecursion (λ b. block_sleeps t delivered b ≡ true) (take (i + 1) blocks)
 one_more_asleep t delivered blocks i d within asleep all =
-    rw (take_more blocks i d within) (all_both (λ (b : Block). sleeps_through t delivered b.outlook.agenda ≡ true)
+    rw (take_more blocks i d within) (all_both (λ (b : Block). block_sleeps t delivered b ≡ true)
     (take i blocks) (get_or blocks i d ∷ []) all (asleep, tt))
 
 -- ---- those behind them

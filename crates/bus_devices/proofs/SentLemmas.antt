@@ -15,8 +15,10 @@ use Rattle.can_frame.specs.declared.contender.Contender.{Contender}
 use Rattle.can_frame.specs.declared.waiting.Waiting.{Waiting}
 use Rattle.co_device.specs.Device.{Device, moments, without_power}
 use Rattle.device_agenda.specs.Agenda.{IsAgendaOf, Sleeps}
+use Rattle.device_agenda.specs.LowBytes.{AreDeafBeyond, IsDeafBeyond}
 use Rattle.device_agenda.specs.declared.agenda.Agenda.{Agenda}
-use Rattle.device_agenda.proofs.AgendaLemmas.{sent_sleeps}
+use Rattle.device_agenda.specs.declared.low_bytes.LowBytes.{LowBytes}
+use Rattle.device_agenda.proofs.AgendaLemmas.{sent_deaf_beyond, sent_sleeps}
 use Rattle.device_laws.proofs.RestLemmas.{sent_moments}
 
 -- ---- one device
@@ -35,6 +37,7 @@ sent_is_due was now place e =
     rw e record {
       due = sent_moments frames was;
       asleep = λ groups. sent_sleeps frames was groups;
+      deaf = λ bytes. sent_deaf_beyond frames was bytes;
       silent = none_left was.waiting place;
     }
 
@@ -74,6 +77,11 @@ module _ (now d : Device) where
     silent = λ e. all_set (λ (x : Device). x.waiting ≡ []) ds i h.silent (plan.silent e);
   }
 
+  -- they are deaf as before
+  deaf_set : (bytes : LowBytes) (ds : List Device) (i : ℕ) → IsDueAsBefore (get_or ds i d) now → AreDeafBeyond bytes ds
+      → AreDeafBeyond bytes (set ds i now)
+  deaf_set bytes ds i h all = all_set (IsDeafBeyond bytes) ds i (h.deaf bytes) all
+
   -- and so is the agenda of each
   agendas_set : (plans : List Agenda) (ds : List Device) (i : ℕ) → IsDueAsBefore (get_or ds i d) now
       → AreAgendasOf plans ds → AreAgendasOf plans (set ds i now)
@@ -107,6 +115,8 @@ module _ (now d : Device) (best : Option Contender) (b0 : Block) where
             (agenda_set now d b.outlook.agenda (take 8 ds) r (rw (get_taken 8 ds r d near) still) h.0.outlook.agenda);
         best = wins;
       };
+      low_bytes = subst (AreDeafBeyond b.low_bytes) (sym (take-set-lt 8 ds r now near))
+          (deaf_set now d b.low_bytes (take 8 ds) r (rw (get_taken 8 ds r d near) still) h.0.low_bytes);
       each = subst (AreAgendasOf b.each) (sym (take-set-lt 8 ds r now near))
           (agendas_set now d b.each (take 8 ds) r (rw (get_taken 8 ds r d near) still) h.0.each);
     },

@@ -1,5 +1,5 @@
 -- Blocks of eight devices.
-use Rattle.std.specs.Prelude.{◌≡◌, ◌<◌, ℕ, List, [], ◌∷◌, length, slice_set, take, drop, Option, ⊤}
+use Rattle.std.specs.Prelude.{◌≡◌, ◌<◌, ℕ, Bool, List, [], ◌∷◌, length, slice_set, take, drop, Option, ⊤}
 use Rattle.bus_devices.specs.Senders.{device_lists}
 use Rattle.bus_devices.specs.declared.outlook.Outlook.{Outlook}
 use Rattle.bus_devices.specs.declared.block.Block.{Block}
@@ -8,8 +8,11 @@ use Rattle.can_frame.specs.Winner.{contenders, IsWinner}
 use Rattle.can_frame.specs.declared.contender.Contender.{Contender}
 use Rattle.co_device.specs.Device.{Device, moments}
 use Rattle.device_agenda.specs.Agenda.{IsAgendaOf, Sleeps}
+use Rattle.device_agenda.specs.Delivered.{Delivered}
+use Rattle.device_agenda.specs.LowBytes.{AreDeafBeyond, IsDeafBeyond, sleeps_on}
 use Rattle.device_agenda.specs.declared.agenda.Agenda.{Agenda}
 use Rattle.device_agenda.specs.declared.groups.Groups.{Groups}
+use Rattle.device_agenda.specs.declared.low_bytes.LowBytes.{LowBytes}
 
 -- what is known of devices: their agenda, and which of the frames that wait at them wins
 pub record IsOutlookOf (outlook : Outlook) (ds : List Device) : Type 0 where
@@ -22,10 +25,15 @@ AreAgendasOf agendas [] = ⊤
 AreAgendasOf [] (d ∷ ds) = ⊥
 AreAgendasOf (a ∷ agendas) (d ∷ ds) = IsAgendaOf a (d ∷ []) × AreAgendasOf agendas ds
 
--- what is known of the devices of a block: of all of them, and the agenda of each
+-- what is known of the devices of a block: of all of them, beyond which low bytes they are deaf, and the agenda of each
 pub record IsBlockOf (block : Block) (ds : List Device) : Type 0 where
   pub outlook : IsOutlookOf block.outlook ds
+  pub low_bytes : AreDeafBeyond block.low_bytes ds
   pub each : AreAgendasOf block.each ds
+
+-- nothing happens to its devices in an instant
+abbrev pub block_sleeps : ℕ → Option Delivered → Block → Bool
+block_sleeps t delivered block = sleeps_on t delivered block.low_bytes block.outlook.agenda
 
 -- another frame wins of those that wait at its devices
 abbrev pub with_best : Block → Option Contender → Block
@@ -36,10 +44,11 @@ abbrev pub AreBlocksOf : List Block → List Device → Type 0
 AreBlocksOf [] ds = ds ≡ []
 AreBlocksOf (block ∷ blocks) ds = IsBlockOf block (take 8 ds) × AreBlocksOf blocks (drop 8 ds)
 
--- a device is due and sleeps as before, and where no frame waited at it, none does
+-- a device is due, sleeps and is deaf as before, and where no frame waited at it, none does
 pub record IsDueAsBefore (was now : Device) : Type 0 where
   pub due : moments now ≡ moments was
   pub asleep : (groups : Groups) → Sleeps groups was → Sleeps groups now
+  pub deaf : (bytes : LowBytes) → IsDeafBeyond bytes was → IsDeafBeyond bytes now
   pub silent : was.waiting ≡ [] → now.waiting ≡ []
 
 -- blocks of the devices as they were, where since then the frames have changed that wait at the device at a place

@@ -1,9 +1,8 @@
 //! What a few devices of a bus do, and what is known of them.
 
-ghost use Rattle.std.specs.Prelude.{◌≡◌, ◌<◌, ◌≤◌, ◌∷◌, [], false, length, option_copied, IfOk, OnOk};
-ghost use Rattle.image_parts.specs.Asking.{outcome};
-ghost use Rattle.image_parts.specs.Record.{IsAsked, Lasts};
-ghost use Rattle.bus_devices.specs.Blocks.{AreAgendasOf, IsBlockOf};
+ghost use Rattle.std.specs.Prelude.{◌≡◌, ◌<◌, ◌≤◌, ◌∷◌, [], false, length, option_copied, IfOk, IfSome, IsTrue, OnOk};
+ghost use Rattle.image_parts.specs.Record.{GoesBy, Lasts};
+ghost use Rattle.bus_devices.specs.Blocks.{AreAgendasOf, IsBlockOf, block_sleeps};
 ghost use Rattle.bus_devices.specs.Numbers.{device_of as first_of, values_of as first_values_of};
 ghost use Rattle.bus_devices.specs.Senders.{contends_with as contends, device_lists, is_contender, sender_place};
 ghost use Rattle.image_parts.specs.Each.{each};
@@ -12,12 +11,13 @@ ghost use Rattle.base.specs.Moments.{earliest};
 ghost use Rattle.co_device.specs.Device.{moments};
 ghost use Rattle.std.specs.List.{flat_map};
 ghost use Rattle.device_agenda.specs.Agenda.{at_instant, IsAgendaOf};
+ghost use Rattle.device_agenda.specs.LowBytes.{AreDeafBeyond};
 
 use crate::outlook::Outlook;
 use base::earlier;
 use can_frame::Contender;
 use co_dict::Dict;
-use device_agenda::{Agenda, Delivery, ScheduledDevice};
+use device_agenda::{Agenda, Delivery, LowBytes, ScheduledDevice};
 use device_objects::Shapes;
 use image_parts::END;
 use std::alloc::AllocError;
@@ -31,6 +31,8 @@ pub(crate) const BLOCK: usize = 8;
 pub(crate) struct Block {
     /// What is known of all of them.
     pub outlook: Outlook,
+    /// The low bytes of the identifiers of frames that may be something to one of them.
+    pub low_bytes: LowBytes,
     /// When each has to run, in their order; what stands behind those of the devices is of none.
     pub each: [Agenda; BLOCK],
 }
@@ -43,8 +45,17 @@ impl Block {
     {
         Block {
             outlook: Outlook::of(devices),
+            low_bytes: low_bytes_of(devices),
             each: agendas_of(devices),
         }
+    }
+
+    /// Whether nothing happens to its devices at the moment t, at which this is delivered.
+    pub(crate) fn sleeps(&self, t: u64, delivery: &Option<Delivery>) -> bool
+        ensures sleeps { result ≡ block_sleeps t delivery.now self.now }
+        ensures bound { IsTrue result → IfSome delivery.now (λ d. d.frame.id < 0x800) }
+    {
+        self.outlook.agenda.sleeps_on(&self.low_bytes, t, delivery)
     }
 }
 
@@ -58,6 +69,17 @@ fn agendas_of(devices: &[ScheduledDevice]) -> [Agenda; BLOCK]
         agendas[place] = device.agenda();
     }
     agendas
+}
+
+/// The low bytes of the identifiers of frames that may be something to one of the devices. Walks them.
+fn low_bytes_of(devices: &[ScheduledDevice]) -> LowBytes
+    ensures { AreDeafBeyond result devices.now }
+{
+    let mut low_bytes = LowBytes::none();
+    for device in devices {
+        low_bytes = low_bytes.and(&device.low_bytes());
+    }
+    low_bytes
 }
 
 /// The agenda of devices.
@@ -82,10 +104,8 @@ fn run_one<P: Shapes>(
 ) -> Result<bool, AllocError>
     requires soon { t < END }
     requires agenda { IsAgendaOf agenda.now (device.old ∷ []) }
-    ensures state { OnOk result (device.new ≡ outcome (at_instant t delivery.now device.old)
-        (P.seen shapes.old).image) }
-    ensures asked { OnOk result (IsAsked (at_instant t delivery.now device.old)
-        (P.seen shapes.old) (P.seen shapes.new) (P.asks shapes.old) (P.asks shapes.new)) }
+    ensures ran { OnOk result (GoesBy (at_instant t delivery.now device.old) device.new
+        P.seen P.asks shapes.old shapes.new) }
     ensures lasts { Lasts (P.seen shapes.old) (P.seen shapes.new) }
     ensures still { IfOk result (λ ran. ran ≡ false → device.new ≡ device.old) }
 {
@@ -106,10 +126,8 @@ pub(crate) fn run_each<P: Shapes>(
 ) -> Result<bool, AllocError>
     requires soon { t < END }
     requires agendas { AreAgendasOf agendas.now devices.old }
-    ensures state { OnOk result (devices.new ≡ outcome (each (at_instant t delivery.now) devices.old)
-        (P.seen shapes.old).image) }
-    ensures asked { OnOk result (IsAsked (each (at_instant t delivery.now) devices.old)
-        (P.seen shapes.old) (P.seen shapes.new) (P.asks shapes.old) (P.asks shapes.new)) }
+    ensures ran { OnOk result (GoesBy (each (at_instant t delivery.now) devices.old) devices.new
+        P.seen P.asks shapes.old shapes.new) }
     ensures lasts { Lasts (P.seen shapes.old) (P.seen shapes.new) }
     ensures still { IfOk result (λ ran. ran ≡ false → devices.new ≡ devices.old) }
 {

@@ -2,14 +2,13 @@
 
 ghost use Rattle.std.specs.Prelude.{◌≡◌, ◌<◌, ◌≤◌, ◌*◌, false, true, List, length, min, take, IfOk, IfSome, OnOk};
 ghost use Rattle.std.specs.List.{AllByRecursion};
-ghost use Rattle.image_parts.specs.Asking.{outcome};
-ghost use Rattle.image_parts.specs.Record.{IsAsked, Lasts};
-ghost use Rattle.bus_devices.specs.Blocks.{AreBlocksOf, IsBlockOf, IsOutlookOf, WereBlocksOf};
+ghost use Rattle.image_parts.specs.Record.{GoesBy, Lasts};
+ghost use Rattle.bus_devices.specs.Blocks.{AreBlocksOf, IsBlockOf, IsOutlookOf, WereBlocksOf, block_sleeps};
 ghost use Rattle.bus_devices.specs.Senders.{device_lists, may_wait_at, sender_place as place_of};
 ghost use Rattle.image_parts.specs.Each.{each};
 ghost use Rattle.can_frame.specs.Winner.{contenders, IsWinner};
 ghost use Rattle.co_device.specs.Device.{Device};
-ghost use Rattle.device_agenda.specs.Agenda.{at_instant, sleeps_through, IsAgendaOf};
+ghost use Rattle.device_agenda.specs.Agenda.{at_instant, IsAgendaOf};
 
 use crate::block::{BLOCK, Block, place_of_sender, run_each, winner_of};
 use crate::outlook::Outlook;
@@ -54,10 +53,8 @@ fn run_block<P: Shapes>(
     requires few { length devices.old ≤ 8 }
     requires known { IsBlockOf block.old devices.old }
     ensures block { OnOk result (IsBlockOf block.new devices.new) }
-    ensures state { OnOk result (devices.new ≡ outcome (each (at_instant t delivery.now) devices.old)
-        (P.seen shapes.old).image) }
-    ensures asked { OnOk result (IsAsked (each (at_instant t delivery.now) devices.old)
-        (P.seen shapes.old) (P.seen shapes.new) (P.asks shapes.old) (P.asks shapes.new)) }
+    ensures ran { OnOk result (GoesBy (each (at_instant t delivery.now) devices.old) devices.new
+        P.seen P.asks shapes.old shapes.new) }
     ensures lasts { Lasts (P.seen shapes.old) (P.seen shapes.new) }
     ensures still { IfOk result (λ ran. ran ≡ false → devices.new ≡ devices.old) }
 {
@@ -71,11 +68,11 @@ fn run_block<P: Shapes>(
 /// How many of the first blocks sleep through the moment t, at which this is delivered.
 fn asleep(blocks: &[Block], t: u64, delivery: &Option<Delivery>) -> usize
     ensures within { result ≤ length blocks.now }
-    ensures asleep { AllByRecursion (λ b. sleeps_through t delivery.now b.outlook.agenda ≡ true) (take result blocks.now) }
+    ensures asleep { AllByRecursion (λ b. block_sleeps t delivery.now b ≡ true) (take result blocks.now) }
     ensures bound { 0 < result → IfSome delivery.now (λ d. d.frame.id < 0x800) }
 {
     for i in 0..blocks.len() {
-        if !blocks[i].outlook.agenda.sleeps_through(t, delivery) {
+        if !blocks[i].sleeps(t, delivery) {
             return i;
         }
     }
@@ -106,10 +103,8 @@ pub(crate) fn run_blocks<P: Shapes>(
     requires soon { t < END }
     requires known { AreBlocksOf blocks.old devices.old }
     ensures blocks { OnOk result (AreBlocksOf blocks.new devices.new) }
-    ensures state { OnOk result (devices.new ≡ outcome (each (at_instant t delivery.now) devices.old)
-        (P.seen shapes.old).image) }
-    ensures asked { OnOk result (IsAsked (each (at_instant t delivery.now) devices.old)
-        (P.seen shapes.old) (P.seen shapes.new) (P.asks shapes.old) (P.asks shapes.new)) }
+    ensures ran { OnOk result (GoesBy (each (at_instant t delivery.now) devices.old) devices.new
+        P.seen P.asks shapes.old shapes.new) }
     ensures lasts { Lasts (P.seen shapes.old) (P.seen shapes.new) }
     ensures still { IfOk result (λ ran. ran ≡ false → (before ≡ false) × (devices.new ≡ devices.old)) }
 {

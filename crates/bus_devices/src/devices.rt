@@ -3,8 +3,7 @@
 ghost use Rattle.std.specs.Prelude.{◌≡◌, ◌<◌, ◌↔◌, [], length, slice_get, Some, IfOk, IsTrue, OnOk};
 ghost use Rattle.std.specs.Prelude.{option_copied};
 ghost use Rattle.std.specs.List.{flat_map};
-ghost use Rattle.image_parts.specs.Asking.{outcome};
-ghost use Rattle.image_parts.specs.Record.{IsAsked, Lasts};
+ghost use Rattle.image_parts.specs.Record.{GoesBy, Lasts};
 ghost use Rattle.image_parts.specs.Each.{each};
 ghost use Rattle.bus_devices.specs.Numbers.{values_of as first_values_of};
 ghost use Rattle.bus_devices.specs.Senders.{device_lists, sender_place as place_of, with_sent};
@@ -139,9 +138,9 @@ impl Devices {
     /// An instant of each device, by number: it hears what is delivered, if another node sent it, and then
     /// runs what is due. Takes constant time where the agenda of all says that they sleep: none is due, and what is
     /// delivered is of a group of none. Else takes time by an eighth of all, by those that are due, and by the
-    /// consumers or RPDOs of those of whose groups it is. The first instant of devices of which nothing is known
-    /// walks all of them, and takes memory for what is known of each eight. Want of memory may come halfway: some of
-    /// the devices have had their instant then, and others not.
+    /// consumers or RPDOs of those that have its group and its low byte. The first instant of devices of which
+    /// nothing is known walks all of them, and takes memory for what is known of each eight. Want of memory may come
+    /// halfway: some of the devices have had their instant then, and others not.
     pub fn instant<P: Shapes>(
         &mut self,
         t: u64,
@@ -149,10 +148,8 @@ impl Devices {
         shapes: &mut P,
     ) -> Result<(), AllocError>
         requires { t < END }
-        ensures state { OnOk result (self.new ≡ outcome (each (at_instant t delivery.now) self.old)
-            (P.seen shapes.old).image) }
-        ensures asked { OnOk result (IsAsked (each (at_instant t delivery.now) self.old)
-            (P.seen shapes.old) (P.seen shapes.new) (P.asks shapes.old) (P.asks shapes.new)) }
+        ensures ran { OnOk result (GoesBy (each (at_instant t delivery.now) self.old) self.new
+            P.seen P.asks shapes.old shapes.new) }
         ensures lasts { Lasts (P.seen shapes.old) (P.seen shapes.new) }
     {
         if self.known && self.all.agenda.sleeps_through(t, delivery) {

@@ -2,7 +2,7 @@
 
 ghost use Rattle.std.specs.Prelude.{◌≡◌, ◌<◌, ◌≤◌, false, length, map, OnOk};
 ghost use Rattle.image_parts.specs.Asking.{outcome};
-ghost use Rattle.image_parts.specs.Record.{IsAsked, Lasts};
+ghost use Rattle.image_parts.specs.Record.{GoesBy, IsAsked, Lasts};
 ghost use Rattle.image_parts.specs.Each.{each};
 ghost use Rattle.bus_devices.specs.Events.{after_events_at, after_event, after_power_at, after_set_at};
 ghost use Rattle.bus_devices.specs.Steps.{AreFree};
@@ -65,9 +65,8 @@ fn power_one<P: Shapes>(
     shapes: &mut P,
 ) -> Result<(), AllocError>
     requires { t < END }
-    ensures state { OnOk result (device.new ≡ outcome (after_power_at t node on device.old) (P.seen shapes.old).image) }
-    ensures asked { OnOk result (IsAsked (after_power_at t node on device.old)
-        (P.seen shapes.old) (P.seen shapes.new) (P.asks shapes.old) (P.asks shapes.new)) }
+    ensures ran { OnOk result (GoesBy (after_power_at t node on device.old) device.new
+        P.seen P.asks shapes.old shapes.new) }
     ensures lasts { Lasts (P.seen shapes.old) (P.seen shapes.new) }
 {
     if device.number() != node {
@@ -85,10 +84,8 @@ fn power_each<P: Shapes>(
     shapes: &mut P,
 ) -> Result<(), AllocError>
     requires { t < END }
-    ensures state { OnOk result (devices.new ≡ outcome (each (after_power_at t node on) devices.old)
-        (P.seen shapes.old).image) }
-    ensures asked { OnOk result (IsAsked (each (after_power_at t node on) devices.old)
-        (P.seen shapes.old) (P.seen shapes.new) (P.asks shapes.old) (P.asks shapes.new)) }
+    ensures ran { OnOk result (GoesBy (each (after_power_at t node on) devices.old) devices.new
+        P.seen P.asks shapes.old shapes.new) }
     ensures lasts { Lasts (P.seen shapes.old) (P.seen shapes.new) }
 {
     for device in devices.iter_mut() {

@@ -1,8 +1,7 @@
 //! The devices of a network as the power comes on.
 
 ghost use Rattle.std.specs.Prelude.{◌≡◌, ◌↔◌, false, length, true, map, slice_get, IfOk, IfSome, IsTrue, OnOk};
-ghost use Rattle.image_parts.specs.Asking.{outcome};
-ghost use Rattle.image_parts.specs.Record.{IsAsked, Lasts};
+ghost use Rattle.image_parts.specs.Record.{GoesBy, Lasts};
 ghost use Rattle.image_parts.specs.Each.{each};
 ghost use Rattle.bus_devices.specs.Telling.{TellsApart};
 ghost use Rattle.co_device.specs.Device.{after_power, without_power};
@@ -102,10 +101,8 @@ pub fn power_all<P: Shapes>(
     devices: &mut [ScheduledDevice],
     shapes: &mut P,
 ) -> Result<(), AllocError>
-    ensures state { OnOk result (devices.new ≡ outcome (each (after_power true 0) devices.old)
-        (P.seen shapes.old).image) }
-    ensures asked { OnOk result (IsAsked (each (after_power true 0) devices.old)
-        (P.seen shapes.old) (P.seen shapes.new) (P.asks shapes.old) (P.asks shapes.new)) }
+    ensures ran { OnOk result (GoesBy (each (after_power true 0) devices.old) devices.new
+        P.seen P.asks shapes.old shapes.new) }
     ensures lasts { Lasts (P.seen shapes.old) (P.seen shapes.new) }
 {
     for device in devices.iter_mut() {

@@ -7,9 +7,6 @@ use Rattle.std.proofs.lemmas.Bool.Decides.{nat_tests}
 use Rattle.std.proofs.lemmas.List.{get_or-set_other, get_or-set_same}
 use Rattle.std.proofs.lemmas.List.Quantifiers.{position-Some}
 use Rattle.image_parts.specs.Asking.{Answer, outcome}
-use Rattle.can_frame.specs.WaitingFrames.{with_latest}
-use Rattle.can_frame.specs.declared.purpose.Purpose.TheVariants.{Heartbeat, Sync}
-use Rattle.base.specs.Moments.{is_due, moment_after}
 use Rattle.can_frame.specs.Identifiers.{error_control_id, sdo_answer_id}
 use Rattle.image_parts.specs.Contents.{Image, identity_of, write_of}
 use Rattle.image_parts.specs.declared.identity.Identity.{Identity}
@@ -25,11 +22,9 @@ use Rattle.node_boot.specs.Boot.{compared_next, next_compared, sdo_answer, sdo_t
 use Rattle.node_boot.specs.declared.boot_stage.BootStage.{BootStage}
 use Rattle.node_boot.specs.declared.boot_stage.BootStage.TheVariants.{Unseen, Comparing, Writing, Configured, Failed}
 use Rattle.nmt_boot.proofs.EventLemmas.{answered_outcome, boots_outcome}
-use Rattle.nmt_boot.specs.Manager.{Manager, after_boot_up, heartbeat_frame, is_boot_up}
+use Rattle.nmt_boot.specs.Manager.{Manager, after_boot_up, after_frame, after_sdo_frame, is_boot_up, time_outs, timers}
 use Rattle.manager_nodes.specs.Table.{is_from, no_node, node_after}
-use Rattle.nmt_boot.specs.Manager.{after_frame, after_sdo_frame, sync_frame, timers, heartbeats}
 use Rattle.manager_nodes.specs.Table.{node_at, place_of}
-use Rattle.nmt_boot.specs.Manager.{syncs, time_outs}
 use Rattle.manager_nodes.specs.declared.booting.Booting.{Booting}
 use Rattle.can_bus.specs.Bus.{Bus, ended_slot, instant, manager_after_slot}
 use Rattle.can_bus.specs.declared.slot.Slot.{Slot}
@@ -235,32 +230,6 @@ module _ (image : Image) (t i : ℕ) (heard : Option Slot) (n : Booting) (P : Bo
 
   -- ---- the timers
 
-  beats_keep : (m : Manager) → Holds m → Holds (heartbeats t m)
-  unfolding heartbeats
-  beats_keep m h = by (is_due t m.heartbeat)
-    where
-      by : (b : Bool)
-          → Holds (if b
-          then record m {
-            heartbeat = moment_after t m.period;
-            waiting = with_latest Heartbeat (heartbeat_frame m.number) m.waiting;
-          } else m)
-      by true = h
-      by false = h
-
-  syncs_keep : (m : Manager) → Holds m → Holds (syncs t m)
-  unfolding syncs
-  syncs_keep m h = by (is_due t m.sync)
-    where
-      by : (b : Bool)
-          → Holds (if b
-          then record m {
-            sync = moment_after t m.sync_period;
-            waiting = with_latest Sync (sync_frame m.sync_counter m.sync_period t) m.waiting;
-          } else m)
-      by true = h
-      by false = h
-
   node_later : (b : Booting) → P b.stage → P (node_after t b).stage
   unfolding sdo_time_out
   node_later b h = by (is_timed_out t b.stage) refl
@@ -281,7 +250,7 @@ module _ (image : Image) (t i : ℕ) (heard : Option Slot) (n : Booting) (P : Bo
 
   timers_keep : (m : Manager) → Holds m → Holds (timers t m).0
   unfolding timers
-  timers_keep m h = syncs_keep (heartbeats t (time_outs t m).0) (beats_keep (time_outs t m).0 (time_outs_keep m h))
+  timers_keep m h = time_outs_keep m h
 
   pub stage_after : (s : Bus) → heard ≡ ended_slot t s.wire → node_at s.manager.nodes i ≡ n
       → P (node_at (outcome (instant t s) image).0.manager.nodes i).stage

@@ -6,9 +6,6 @@ use Rattle.image_parts.specs.Asking.{Answer, outcome}
 use Rattle.manager_nodes.specs.Table.{all_configured, has_booted, is_configured, node_after}
 use Rattle.manager_nodes.specs.declared.booting.Booting.{Booting}
 use Rattle.can_frame.specs.Frames.{BaseFrame}
-use Rattle.can_frame.specs.WaitingFrames.{with_latest}
-use Rattle.can_frame.specs.declared.purpose.Purpose.TheVariants.{Heartbeat, Sync}
-use Rattle.base.specs.Moments.{is_due, moment_after}
 use Rattle.image_parts.specs.Contents.{Image, roster_of}
 use Rattle.image_parts.specs.declared.part.Part.TheVariants.{Roster}
 use Rattle.image_parts.specs.declared.roster.Roster.{Roster as Network}
@@ -18,8 +15,7 @@ use Rattle.node_boot.specs.declared.boot_stage.BootStage.TheVariants.{Unseen, Co
 use Rattle.node_boot.specs.declared.note_kind.NoteKind.{NoteKind}
 use Rattle.node_boot.specs.declared.note_kind.NoteKind.TheVariants as kind
 use Rattle.nmt_boot.proofs.FrameLemmas.{received_holds}
-use Rattle.nmt_boot.specs.Manager.{Manager, after_frame, heartbeat_frame, heartbeats, manager_at_power_on, sync_frame}
-use Rattle.nmt_boot.specs.Manager.{syncs, time_outs, timers}
+use Rattle.nmt_boot.specs.Manager.{Manager, after_frame, manager_at_power_on, time_outs, timers}
 use Rattle.nmt_boot.specs.Startup.{Startup, by_mode, startup_after, startup_of_configured}
 use Rattle.can_bus.specs.Bus.{Bus, ended_slot, instant, manager_after_slot, power_on}
 use Rattle.can_bus.specs.declared.slot.Slot.{Slot}
@@ -55,33 +51,9 @@ module _ (P : Startup → List Booting → Type 0) where
   abbrev Has : Manager → Type 0
   Has m = P m.startup m.nodes
 
-  beats_have : (t : ℕ) (m : Manager) → Has m → Has (heartbeats t m)
-  unfolding heartbeats
-  beats_have t m h = by (is_due t m.heartbeat)
-    where
-      by : (b : Bool) → Has (if b
-          then record m {
-            heartbeat = moment_after t m.period;
-            waiting = with_latest Heartbeat (heartbeat_frame m.number) m.waiting;
-          } else m)
-      by true = h
-      by false = h
-
-  syncs_have : (t : ℕ) (m : Manager) → Has m → Has (syncs t m)
-  unfolding syncs
-  syncs_have t m h = by (is_due t m.sync)
-    where
-      by : (b : Bool) → Has (if b
-          then record m {
-            sync = moment_after t m.sync_period;
-            waiting = with_latest Sync (sync_frame m.sync_counter m.sync_period t) m.waiting;
-          } else m)
-      by true = h
-      by false = h
-
   timers_have : (t : ℕ) (m : Manager) → P m.startup (map (node_after t) m.nodes) → Has (timers t m).0
   unfolding timers time_outs
-  timers_have t m h = syncs_have t (heartbeats t (time_outs t m).0) (beats_have t (time_outs t m).0 h)
+  timers_have t m h = h
 
 -- ---- the network stays started
 

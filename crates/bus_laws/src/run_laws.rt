@@ -1,6 +1,6 @@
 //! Laws of the runs of a bus, each a function whose contract is the law.
 
-ghost use Rattle.std.specs.Prelude.{◌≡◌, ◌⊎◌, ◌↔◌, ◌+◌, ◌*◌, ℕ, [], Some, None, true, false};
+ghost use Rattle.std.specs.Prelude.{◌≡◌, ◌⊎◌, ◌↔◌, ◌+◌, ◌*◌, ℕ, Contains, [], Some, None, true, false};
 ghost use Rattle.image_parts.specs.Agenda.{IsSameUnder};
 ghost use Rattle.image_parts.specs.Asking.{outcome, turns};
 ghost use Rattle.bus_laws.specs.Boots.{FollowsWrite, IsBootUpOf};
@@ -13,10 +13,12 @@ ghost use Rattle.can_frame.specs.declared.contender.Contender.{Contender as Bid}
 ghost use Rattle.can_frame.specs.declared.waiting.Waiting.{Waiting as Queued};
 ghost use Rattle.image_parts.specs.Contents.{roster_of, Image};
 ghost use Rattle.image_parts.specs.Images.{IsImage};
-ghost use Rattle.base.specs.Moments.{is_due};
 ghost use Rattle.image_parts.specs.declared.part.Part.TheVariants as part;
 ghost use Rattle.sdo_client.specs.declared.client_transfer.ClientTransfer.{ClientTransfer as Transfer};
-ghost use Rattle.nmt_boot.specs.Beats.{IsMultiple};
+ghost use Rattle.nmt_boot.specs.Beats.{IsMultiple, due_messages};
+ghost use Rattle.nmt_boot.specs.Periodic.{messages, period_of};
+ghost use Rattle.nmt_boot.specs.declared.periodic_message.PeriodicMessage.{PeriodicMessage as Message};
+ghost use Rattle.nmt_boot.specs.declared.periodic_message.PeriodicMessage.TheVariants.{Heartbeat, Sync};
 ghost use Rattle.manager_nodes.specs.Table.{all_configured, node_at};
 ghost use Rattle.image_parts.specs.declared.start_mode.StartMode.TheVariants.{EachNode};
 ghost use Rattle.node_boot.specs.Boot.{deadline_of};
@@ -36,15 +38,20 @@ pub fn a_run_goes_instant_by_instant()
     ensures next { (image : Image) (t : ℕ) → bus_at image (t + 1) ≡ (outcome (instant t (bus_at image t)) image).0 }
 {}
 
-/// At every moment of a run the manager's heartbeat is due exactly at the whole multiples above 0 of its period by
-/// the roster, and its SYNC at those of the SYNC period.
-#[tactic(auto, using(crate::proofs::BeatLemmas::heartbeat_at_multiples, crate::proofs::BeatLemmas::sync_at_multiples_of_run))]
-pub fn heartbeat_and_sync_are_due_at_whole_multiples()
+/// At every moment of a run what the manager sends periodically is due exactly at the whole multiples above 0 of its
+/// period by the roster: its heartbeat at those of the heartbeat time, and its SYNC at those of the SYNC period.
+pub fn periodic_messages_are_due_at_whole_multiples()
+    ensures each { (image : Image) (t : ℕ) (message : Message)
+        → Contains (messages (roster_of (image part.Roster)).sync_counter) message
+        → Contains (due_messages t (bus_at image t).manager.periodic) message
+        ↔ IsMultiple t (period_of (roster_of (image part.Roster)) message) }
     ensures heartbeat { (image : Image) (t : ℕ)
-        → (is_due t (bus_at image t).manager.heartbeat ≡ true)
+        → Contains (due_messages t (bus_at image t).manager.periodic) Heartbeat
         ↔ IsMultiple t (1000 * (roster_of (image part.Roster)).heartbeat_ms) }
     ensures sync { (image : Image) (t : ℕ)
-        → (is_due t (bus_at image t).manager.sync ≡ true) ↔ IsMultiple t (roster_of (image part.Roster)).sync_us }
+        → Contains (due_messages t (bus_at image t).manager.periodic)
+        (Sync (roster_of (image part.Roster)).sync_counter)
+        ↔ IsMultiple t (roster_of (image part.Roster)).sync_us }
 {}
 
 /// In a run the network is started as a whole at most once: only in an instant that leaves each mandatory node

@@ -3,7 +3,7 @@
 ghost use Rattle.std.specs.Prelude.{◌≡◌, ◌<◌, ◌≤◌, ◌+◌, ◌*◌, ◌++◌, ◌↔◌, IfOk, OnOk, OnErr, IsErr, IsTrue};
 ghost use Rattle.std.specs.Prelude.{option_copied};
 ghost use Rattle.image_parts.specs.Asking.{outcome};
-ghost use Rattle.image_parts.specs.Record.{BeginsWith, IsAsked, Lasts};
+ghost use Rattle.image_parts.specs.Record.{BeginsWith, GoesBy, IsAsked, Lasts};
 ghost use Rattle.bus_devices.specs.Numbers.{values_of};
 ghost use Rattle.can_bus.specs.Bus.{blank_bus, ended_slot, from_delivery_on, instant, open_slot, power_on, power_on_of};
 ghost use Rattle.can_bus.specs.Bus.{after_arbitration};
@@ -93,9 +93,7 @@ fn power_on_of<P: Parts>(
     parts: &mut P,
 ) -> Result<BusState, AllocError>
     requires { 1 ≤ roster.now.bit_rate }
-    ensures state { IfOk result (λ bus. bus ≡ outcome (power_on_of roster.now) (P.seen parts.old).image) }
-    ensures asked { OnOk result (IsAsked (power_on_of roster.now)
-        (P.seen parts.old) (P.seen parts.new) (P.asks parts.old) (P.asks parts.new)) }
+    ensures ran { IfOk result (λ bus. GoesBy (power_on_of roster.now) bus P.seen P.asks parts.old parts.new) }
     ensures lasts { Lasts (P.seen parts.old) (P.seen parts.new) }
 {
     let mut devices = new_devices(alloc, roster.nodes.as_slice())?;
@@ -240,9 +238,7 @@ impl BusState {
     /// The bus of a network as the power comes on, at time 0. Takes time by the number of nodes.
     #[tactic(auto, unfolding(crate::specs::Bus::power_on))]
     pub fn power_on<P: Parts>(alloc: Global, parts: &mut P) -> Result<BusState, AllocError>
-        ensures state { IfOk result (λ bus. bus ≡ outcome power_on (P.seen parts.old).image) }
-        ensures asked { OnOk result (IsAsked power_on
-            (P.seen parts.old) (P.seen parts.new) (P.asks parts.old) (P.asks parts.new)) }
+        ensures ran { IfOk result (λ bus. GoesBy power_on bus P.seen P.asks parts.old parts.new) }
         ensures lasts { Lasts (P.seen parts.old) (P.seen parts.new) }
     {
         let roster = parts.roster()?;

@@ -1,8 +1,7 @@
 //! The windows of a bus, and their events.
 
 ghost use Rattle.std.specs.Prelude.{◌≡◌, ◌<◌, OnOk};
-ghost use Rattle.image_parts.specs.Asking.{outcome};
-ghost use Rattle.image_parts.specs.Record.{IsAsked, Lasts};
+ghost use Rattle.image_parts.specs.Record.{GoesBy, Lasts};
 ghost use Rattle.can_bus.specs.Bus.{after_events, after_window_start};
 
 use crate::bus_state::BusState;
@@ -20,9 +19,7 @@ pub(crate) fn begin_window<P: Parts>(
     parts: &mut P,
 ) -> Result<(), AllocError>
     requires { t < END }
-    ensures state { OnOk result (bus.new ≡ outcome (after_window_start t bus.old) (P.seen parts.old).image) }
-    ensures asked { OnOk result (IsAsked (after_window_start t bus.old)
-        (P.seen parts.old) (P.seen parts.new) (P.asks parts.old) (P.asks parts.new)) }
+    ensures ran { OnOk result (GoesBy (after_window_start t bus.old) bus.new P.seen P.asks parts.old parts.new) }
     ensures lasts { Lasts (P.seen parts.old) (P.seen parts.new) }
 {
     if t != bus.window {
@@ -38,9 +35,7 @@ pub(crate) fn begin_window<P: Parts>(
 #[tactic(auto, using(crate::proofs::WindowLemmas::events_laws))]
 pub(crate) fn run_due<P: Parts>(bus: &mut BusState, t: u64, parts: &mut P) -> Result<(), AllocError>
     requires { t < END }
-    ensures state { OnOk result (bus.new ≡ outcome (after_events t bus.old) (P.seen parts.old).image) }
-    ensures asked { OnOk result (IsAsked (after_events t bus.old)
-        (P.seen parts.old) (P.seen parts.new) (P.asks parts.old) (P.asks parts.new)) }
+    ensures ran { OnOk result (GoesBy (after_events t bus.old) bus.new P.seen P.asks parts.old parts.new) }
     ensures lasts { Lasts (P.seen parts.old) (P.seen parts.new) }
 {
     let steps = bus.steps.due(t);

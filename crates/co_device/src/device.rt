@@ -2,8 +2,7 @@
 
 ghost use Rattle.std.specs.Prelude.{◌≡◌, ◌↔◌, ◌<◌, ◌≤◌, Some, false, length, remove, slice_get, IfOk, OnOk, OnErr};
 ghost use Rattle.std.specs.Prelude.{IsErr, IsTrue};
-ghost use Rattle.image_parts.specs.Asking.{outcome};
-ghost use Rattle.image_parts.specs.Record.{IsAsked, Lasts};
+ghost use Rattle.image_parts.specs.Record.{GoesBy, Lasts};
 ghost use Rattle.can_frame.specs.Winner.{contenders_of, IsWinner};
 ghost use Rattle.co_values.specs.Values.{longest_value};
 ghost use Rattle.co_device.specs.Device.{is_in as is_in_state, next_due, after_power, after_instant, after_set};
@@ -256,9 +255,7 @@ impl Device {
     /// Switches the power of the device at the moment t. Where it is as it was, nothing changes.
     pub fn power<P: Shapes>(&mut self, on: bool, t: u64, shapes: &mut P) -> Result<(), AllocError>
         requires { t < END }
-        ensures state { OnOk result (self.new ≡ outcome (after_power on t self.old) (P.seen shapes.old).image) }
-        ensures asked { OnOk result (IsAsked (after_power on t self.old)
-            (P.seen shapes.old) (P.seen shapes.new) (P.asks shapes.old) (P.asks shapes.new)) }
+        ensures ran { OnOk result (GoesBy (after_power on t self.old) self.new P.seen P.asks shapes.old shapes.new) }
         ensures lasts { Lasts (P.seen shapes.old) (P.seen shapes.new) }
         ensures refused { IsTrue self.old.spent → IsErr result }
         ensures spent { OnErr result (IsTrue self.new.spent) }
@@ -281,9 +278,8 @@ impl Device {
         shapes: &mut P,
     ) -> Result<(), AllocError>
         requires { t < END }
-        ensures state { OnOk result (self.new ≡ outcome (after_frame t frame.now self.old) (P.seen shapes.old).image) }
-        ensures asked { OnOk result (IsAsked (after_frame t frame.now self.old)
-            (P.seen shapes.old) (P.seen shapes.new) (P.asks shapes.old) (P.asks shapes.new)) }
+        ensures ran { OnOk result (GoesBy (after_frame t frame.now self.old) self.new
+            P.seen P.asks shapes.old shapes.new) }
         ensures lasts { Lasts (P.seen shapes.old) (P.seen shapes.new) }
         ensures refused { IsTrue self.old.spent → IsErr result }
         ensures spent { OnErr result (IsTrue self.new.spent) }

@@ -1,8 +1,7 @@
 //! The frames that a device receives.
 
 ghost use Rattle.std.specs.Prelude.{◌≡◌, ◌<◌, OnOk};
-ghost use Rattle.image_parts.specs.Asking.{outcome};
-ghost use Rattle.image_parts.specs.Record.{IsAsked, Lasts};
+ghost use Rattle.image_parts.specs.Record.{GoesBy, Lasts};
 ghost use Rattle.co_device.specs.Receiving.{after_frame, reception};
 ghost use Rattle.device_objects.specs.Profile.{sync_identifier as identifier_of_sync};
 
@@ -36,9 +35,8 @@ impl Device {
         shapes: &mut P,
     ) -> Result<(), AllocError>
         requires { t < END }
-        ensures state { OnOk result (self.new ≡ outcome (after_frame t frame.now self.old) (P.seen shapes.old).image) }
-        ensures asked { OnOk result (IsAsked (after_frame t frame.now self.old)
-            (P.seen shapes.old) (P.seen shapes.new) (P.asks shapes.old) (P.asks shapes.new)) }
+        ensures ran { OnOk result (GoesBy (after_frame t frame.now self.old) self.new
+            P.seen P.asks shapes.old shapes.new) }
         ensures lasts { Lasts (P.seen shapes.old) (P.seen shapes.new) }
     {
         let sync = sync_identifier(self.learnt, &self.values);

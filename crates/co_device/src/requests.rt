@@ -1,8 +1,7 @@
 //! The requests to a device's SDO server.
 
 ghost use Rattle.std.specs.Prelude.{◌≡◌, ◌<◌, ◌++◌, OnOk};
-ghost use Rattle.image_parts.specs.Asking.{outcome};
-ghost use Rattle.image_parts.specs.Record.{IsAsked, Lasts};
+ghost use Rattle.image_parts.specs.Record.{GoesBy, Lasts};
 ghost use Rattle.co_device.specs.Device.{after_request, answer_frames, after_sdo_request};
 
 use crate::device::Device;
@@ -57,10 +56,8 @@ impl Device {
         shapes: &mut P,
     ) -> Result<(), AllocError>
         requires { t < END }
-        ensures state { OnOk result (self.new ≡ outcome (after_sdo_request t request.now self.old)
-            (P.seen shapes.old).image) }
-        ensures asked { OnOk result (IsAsked (after_sdo_request t request.now self.old)
-            (P.seen shapes.old) (P.seen shapes.new) (P.asks shapes.old) (P.asks shapes.new)) }
+        ensures ran { OnOk result (GoesBy (after_sdo_request t request.now self.old) self.new
+            P.seen P.asks shapes.old shapes.new) }
         ensures lasts { Lasts (P.seen shapes.old) (P.seen shapes.new) }
     {
         if self.is_in(NmtState::Stopped) {

@@ -1,8 +1,7 @@
 //! Power, and the NMT services that reset a device.
 
 ghost use Rattle.std.specs.Prelude.{◌≡◌, ◌<◌, OnOk};
-ghost use Rattle.image_parts.specs.Asking.{outcome};
-ghost use Rattle.image_parts.specs.Record.{IsAsked, Lasts};
+ghost use Rattle.image_parts.specs.Record.{GoesBy, Lasts};
 ghost use Rattle.co_device.specs.Device.{after_initialisation, after_power, reset_communication, after_reset_node};
 ghost use Rattle.co_device.specs.Device.{without_power};
 
@@ -67,9 +66,7 @@ impl Device {
     #[tactic(auto, unfolding(crate::specs::Device::after_reset_node))]
     pub(crate) fn reset_node<P: Shapes>(&mut self, t: u64, shapes: &mut P) -> Result<(), AllocError>
         requires { t < END }
-        ensures state { OnOk result (self.new ≡ outcome (after_reset_node t self.old) (P.seen shapes.old).image) }
-        ensures asked { OnOk result (IsAsked (after_reset_node t self.old)
-            (P.seen shapes.old) (P.seen shapes.new) (P.asks shapes.old) (P.asks shapes.new)) }
+        ensures ran { OnOk result (GoesBy (after_reset_node t self.old) self.new P.seen P.asks shapes.old shapes.new) }
         ensures lasts { Lasts (P.seen shapes.old) (P.seen shapes.new) }
     {
         let defaults = shapes.defaults(self.number)?;
@@ -87,9 +84,8 @@ impl Device {
         shapes: &mut P,
     ) -> Result<(), AllocError>
         requires { t < END }
-        ensures state { OnOk result (self.new ≡ outcome (reset_communication t self.old) (P.seen shapes.old).image) }
-        ensures asked { OnOk result (IsAsked (reset_communication t self.old)
-            (P.seen shapes.old) (P.seen shapes.new) (P.asks shapes.old) (P.asks shapes.new)) }
+        ensures ran { OnOk result (GoesBy (reset_communication t self.old) self.new
+            P.seen P.asks shapes.old shapes.new) }
         ensures lasts { Lasts (P.seen shapes.old) (P.seen shapes.new) }
     {
         let defaults = shapes.defaults(self.number)?;
@@ -108,9 +104,7 @@ impl Device {
         shapes: &mut P,
     ) -> Result<(), AllocError>
         requires { t < END }
-        ensures state { OnOk result (self.new ≡ outcome (after_power on t self.old) (P.seen shapes.old).image) }
-        ensures asked { OnOk result (IsAsked (after_power on t self.old)
-            (P.seen shapes.old) (P.seen shapes.new) (P.asks shapes.old) (P.asks shapes.new)) }
+        ensures ran { OnOk result (GoesBy (after_power on t self.old) self.new P.seen P.asks shapes.old shapes.new) }
         ensures lasts { Lasts (P.seen shapes.old) (P.seen shapes.new) }
     {
         if on == self.has_power {

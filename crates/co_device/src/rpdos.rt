@@ -1,8 +1,7 @@
 //! The frames of PDOs, and SYNC messages.
 
 ghost use Rattle.std.specs.Prelude.{◌≡◌, ◌<◌, ◌≤◌, ◌+◌, length, OnOk};
-ghost use Rattle.image_parts.specs.Asking.{outcome};
-ghost use Rattle.image_parts.specs.Record.{IsAsked, Lasts};
+ghost use Rattle.image_parts.specs.Record.{GoesBy, Lasts};
 ghost use Rattle.co_dict.specs.Mappings.{mapped_length as length_mapped, mapping_bits};
 ghost use Rattle.pdo_rules.specs.Packing.{bits_for, frame_bits};
 ghost use Rattle.device_pdos.specs.Rpdos.{mapping_of_rpdo};
@@ -85,11 +84,8 @@ impl Device {
         shapes: &mut P,
     ) -> Result<(), AllocError>
         requires { t < END }
-        ensures state { OnOk result (self.new
-            ≡ outcome (after_mapping t (mapping_of_rpdo configuration.now) frame.now self.old)
-            (P.seen shapes.old).image) }
-        ensures asked { OnOk result (IsAsked (after_mapping t (mapping_of_rpdo configuration.now) frame.now self.old)
-            (P.seen shapes.old) (P.seen shapes.new) (P.asks shapes.old) (P.asks shapes.new)) }
+        ensures ran { OnOk result (GoesBy (after_mapping t (mapping_of_rpdo configuration.now) frame.now self.old)
+            self.new P.seen P.asks shapes.old shapes.new) }
         ensures lasts { Lasts (P.seen shapes.old) (P.seen shapes.new) }
     {
         let shape = shapes.shape(self.number)?;
@@ -109,9 +105,8 @@ impl Device {
     ) -> Result<(), AllocError>
         requires soon { t < END }
         requires inside { i < length self.old.rpdos }
-        ensures state { OnOk result (self.new ≡ outcome (after_rpdo t frame.now i self.old) (P.seen shapes.old).image) }
-        ensures asked { OnOk result (IsAsked (after_rpdo t frame.now i self.old)
-            (P.seen shapes.old) (P.seen shapes.new) (P.asks shapes.old) (P.asks shapes.new)) }
+        ensures ran { OnOk result (GoesBy (after_rpdo t frame.now i self.old) self.new
+            P.seen P.asks shapes.old shapes.new) }
         ensures lasts { Lasts (P.seen shapes.old) (P.seen shapes.new) }
     {
         match self.rpdos[i].receive(frame) {
@@ -137,9 +132,8 @@ impl Device {
         shapes: &mut P,
     ) -> Result<(), AllocError>
         requires { t < END }
-        ensures state { OnOk result (self.new ≡ outcome (after_pdo t frame.now self.old) (P.seen shapes.old).image) }
-        ensures asked { OnOk result (IsAsked (after_pdo t frame.now self.old)
-            (P.seen shapes.old) (P.seen shapes.new) (P.asks shapes.old) (P.asks shapes.new)) }
+        ensures ran { OnOk result (GoesBy (after_pdo t frame.now self.old) self.new
+            P.seen P.asks shapes.old shapes.new) }
         ensures lasts { Lasts (P.seen shapes.old) (P.seen shapes.new) }
     {
         if !self.is_in(NmtState::Operational) {
@@ -156,9 +150,7 @@ impl Device {
     fn sync_rpdo<P: Shapes>(&mut self, t: u64, i: usize, shapes: &mut P) -> Result<(), AllocError>
         requires soon { t < END }
         requires inside { i < length self.old.rpdos }
-        ensures state { OnOk result (self.new ≡ outcome (after_sync_at t i self.old) (P.seen shapes.old).image) }
-        ensures asked { OnOk result (IsAsked (after_sync_at t i self.old)
-            (P.seen shapes.old) (P.seen shapes.new) (P.asks shapes.old) (P.asks shapes.new)) }
+        ensures ran { OnOk result (GoesBy (after_sync_at t i self.old) self.new P.seen P.asks shapes.old shapes.new) }
         ensures lasts { Lasts (P.seen shapes.old) (P.seen shapes.new) }
     {
         let Some(frame) = self.rpdos[i].kept else {
@@ -179,9 +171,8 @@ impl Device {
         shapes: &mut P,
     ) -> Result<(), AllocError>
         requires { t < END }
-        ensures state { OnOk result (self.new ≡ outcome (after_sync t bytes.now self.old) (P.seen shapes.old).image) }
-        ensures asked { OnOk result (IsAsked (after_sync t bytes.now self.old)
-            (P.seen shapes.old) (P.seen shapes.new) (P.asks shapes.old) (P.asks shapes.new)) }
+        ensures ran { OnOk result (GoesBy (after_sync t bytes.now self.old) self.new
+            P.seen P.asks shapes.old shapes.new) }
         ensures lasts { Lasts (P.seen shapes.old) (P.seen shapes.new) }
     {
         if self.is_in(NmtState::Operational) {

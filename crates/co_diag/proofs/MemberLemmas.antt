@@ -19,7 +19,7 @@ use Rattle.eds_device.specs.Described.{Described, description_of, description_by
 use Rattle.eds_device.specs.Described.{value_text}
 use Rattle.eds_device.specs.Origins.{Origin, origin_of}
 use Rattle.eds_device.specs.Places.{pairs_of}
-use Rattle.eds_device.proofs.LawLemmas.{rules_give}
+use Rattle.eds_places.proofs.GivenLemmas.{rules_give}
 use Rattle.node_parameters.proofs.WrittenLemmas.{Contains-filter_map, from_filter_map}
 use Rattle.pdo_stations.specs.Devices.{is_unsigned}
 use Rattle.co_project.specs.declared.node.Node.{Node}

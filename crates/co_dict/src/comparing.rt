@@ -23,19 +23,11 @@ fn same_limit(limit: Option<i128>, other: Option<i128>) -> bool
 fn same_entry(entry: &Entry, other: &Entry) -> bool
     ensures { IsTrue result ↔ (entry.now ≡ other.now) }
 {
-    if entry.kind != other.kind {
-        return false;
-    }
-    if entry.access != other.access {
-        return false;
-    }
-    if !same_limit(entry.low, other.low) {
-        return false;
-    }
-    if !same_limit(entry.high, other.high) {
-        return false;
-    }
-    entry.mappable == other.mappable
+    entry.kind == other.kind
+        && entry.access == other.access
+        && same_limit(entry.low, other.low)
+        && same_limit(entry.high, other.high)
+        && entry.mappable == other.mappable
 }
 
 /// Whether two maps describe the same entries alike.

@@ -62,10 +62,7 @@ pub(crate) fn check_cob_id(
         return Ok(());
     }
     let new = CobId::of(number_32(bytes));
-    if takes_restricted(new) {
-        return Err(Abort::INVALID_VALUE);
-    }
-    if changes_frames(CobId::of(dict.number_32(index, sub)), new) {
+    if takes_restricted(new) || changes_frames(CobId::of(dict.number_32(index, sub)), new) {
         return Err(Abort::INVALID_VALUE);
     }
     Ok(())
@@ -99,10 +96,7 @@ pub(crate) fn check_mapping_object(
     if !is_mapping_object(index) {
         return Ok(());
     }
-    if has_valid_pdo(shape, dict, index) {
-        return Err(Abort::UNSUPPORTED_ACCESS);
-    }
-    if sub > 0 && is_mapping_enabled(shape, dict, index) {
+    if has_valid_pdo(shape, dict, index) || (sub > 0 && is_mapping_enabled(shape, dict, index)) {
         return Err(Abort::UNSUPPORTED_ACCESS);
     }
     Ok(())
@@ -148,10 +142,7 @@ fn can_be_mapped(direction: Direction, shape: &Shape, entry: u32) -> bool
     ensures { result ≡ can_be_mapped_whole direction shape.now entry }
 {
     let (index, sub) = mapped_place(entry);
-    match width_mapped(direction, shape, index, sub) {
-        Some(bits) => bits == mapped_length(entry),
-        None => false,
-    }
+    width_mapped(direction, shape, index, sub).is_some_and(|bits| bits == mapped_length(entry))
 }
 
 /// Whether an entry of a mapping object isn't there as UNSIGNED32, or names what can't be mapped in

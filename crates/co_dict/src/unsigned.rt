@@ -11,29 +11,23 @@ impl Shape {
     pub fn has_unsigned8(&self, index: u16, sub: u8) -> bool
         ensures { result ≡ has_type is_unsigned8 self.now (index, sub) }
     {
-        match self.entry(index, sub) {
-            Some(entry) => matches!(entry.kind, DataType::Unsigned8),
-            None => false,
-        }
+        self.entry(index, sub)
+            .is_some_and(|entry| matches!(entry.kind, DataType::Unsigned8))
     }
 
     /// Whether there is such an entry, an UNSIGNED16.
     pub fn has_unsigned16(&self, index: u16, sub: u8) -> bool
         ensures { result ≡ has_type is_unsigned16 self.now (index, sub) }
     {
-        match self.entry(index, sub) {
-            Some(entry) => matches!(entry.kind, DataType::Unsigned16),
-            None => false,
-        }
+        self.entry(index, sub)
+            .is_some_and(|entry| matches!(entry.kind, DataType::Unsigned16))
     }
 
     /// Whether there is such an entry, an UNSIGNED32.
     pub fn has_unsigned32(&self, index: u16, sub: u8) -> bool
         ensures { result ≡ has_type is_unsigned32 self.now (index, sub) }
     {
-        match self.entry(index, sub) {
-            Some(entry) => matches!(entry.kind, DataType::Unsigned32),
-            None => false,
-        }
+        self.entry(index, sub)
+            .is_some_and(|entry| matches!(entry.kind, DataType::Unsigned32))
     }
 }

@@ -2,6 +2,7 @@
 #![tactic(auto)]
 
 mod contents;
+mod device_text;
 pub mod laws;
 mod links;
 mod node;
@@ -10,6 +11,7 @@ mod nodes;
 mod project;
 mod texts;
 
+pub use device_text::read_device;
 pub use node::Node;
 pub use node_parameters::Params;
 pub use project::Project;

@@ -4,21 +4,20 @@ use Rattle.std.proofs.Common.{sym, ap, ◌∙◌, arith, inl, inr, ◌⊎◌}
 use Rattle.std.specs.Prelude.{min, nat_le}
 use Rattle.std.specs.List.{AllByRecursion}
 use Rattle.std.proofs.lemmas.Bool.Decides.{nat_tests}
-use Rattle.image_parts.specs.Asking.{Asking, Answer, outcome}
 use Rattle.can_frame.specs.Frames.{BaseFrame}
 use Rattle.can_frame.specs.Winner.{contenders_of, IsWinner}
 use Rattle.can_frame.specs.declared.contender.Contender.{Contender}
 use Rattle.can_frame.specs.declared.waiting.Waiting.{Waiting}
-use Rattle.image_parts.specs.Contents.{Content, Image}
 use Rattle.base.specs.Moments.{earlier, earliest, has_come}
-use Rattle.image_parts.specs.declared.part.Part.{Part}
 use Rattle.co_device.specs.Device.{Device, moments, next_due}
 use Rattle.co_device.specs.Receiving.{is_ignored, is_ignored_as, reception}
 use Rattle.device_laws.specs.Deaf.{IsDeafTo, IsIdleSync}
 use Rattle.device_laws.proofs.RestLemmas.{sent_rests}
 use Rattle.device_agenda.specs.Agenda.{IsAgendaOf, Sleeps}
+use Rattle.device_agenda.specs.LowBytes.{IsDeafBeyond}
 use Rattle.device_agenda.specs.declared.agenda.Agenda.{Agenda as Plan}
 use Rattle.device_agenda.specs.declared.groups.Groups.{Groups}
+use Rattle.device_agenda.specs.declared.low_bytes.LowBytes.{LowBytes}
 use Rattle.device_agenda.specs.declared.schedule.Schedule.{Schedule}
 use Rattle.device_agenda.specs.Schedule.{IsScheduled}
 use Rattle.device_objects.specs.declared.reception.Reception.{Reception}
@@ -118,6 +117,9 @@ module _ (frames : List Waiting) (d : Device) where
     deaf = λ frame bound e. sent_deaf frame (h.deaf frame bound e);
   }
 
+  pub sent_deaf_beyond : (bytes : LowBytes) → IsDeafBeyond bytes d → IsDeafBeyond bytes (record d { waiting = frames })
+  sent_deaf_beyond bytes h = record { deaf = λ frame bound e. sent_deaf frame (h.deaf frame bound e) }
+
   pub sent_plan : (a : Plan) (waits : Bool) → IsAgendaOf a (d ∷ []) → (waits ≡ false → frames ≡ [])
       → IsAgendaOf (record a { waits = waits }) (record d { waiting = frames } ∷ [])
   sent_plan a waits plan silent = record {
@@ -141,10 +143,6 @@ pub same_either : {s r : Schedule} → (s ≡ r) ⊎ (s ≡ r) → s ≡ r
 same_either (inl e) = e
 same_either (inr e) = e
 
-pub scheduled_as : {s r : Schedule} → s ≡ r → IsScheduled r.agenda r.sync r.device
-    → IsScheduled s.agenda s.sync s.device
+pub scheduled_as : {s r : Schedule} → s ≡ r → IsScheduled r.agenda r.low_bytes r.sync r.device
+    → IsScheduled s.agenda s.low_bytes s.sync s.device
 scheduled_as e h = rw e h
-
--- where nothing is read
-pub same_state : (m : Asking Part Content Device) (d : Device) → m ≡ Answer d → (image : Image) → d ≡ outcome m image
-same_state m d e image = sym (ap (λ (m : Asking Part Content Device). outcome m image) e)

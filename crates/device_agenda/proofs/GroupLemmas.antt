@@ -5,8 +5,6 @@ use Rattle.std.specs.Prelude.{◌^◌, max}
 use Rattle.std.specs.Int.{bit_at}
 use Rattle.std.proofs.lemmas.Bool.{eqb-false, eqb-true}
 use Rattle.std.proofs.lemmas.Nat.Bits.{bit_at-lt, bit_at_or, bit_at_set_other, bit_at_set_same}
-use Rattle.device_agenda.specs.Groups.{Extends, group_of, includes}
-use Rattle.device_agenda.specs.declared.groups.Groups.{Groups}
 
 pub neither : (a b : Bool) → a || b ≡ false → (a ≡ false) × (b ≡ false)
 neither true b h = absurd cc
@@ -37,27 +35,21 @@ one_more bits k within i = by (i == k) refl
         ∙ ap (λ n. n == 1) (bit_at_set_same w64 bits k within)
     by false e = ap (λ n. n == 1) (bit_at_set_other w64 bits k within i (eqb-false i k e))
 
--- ---- sets that grow
+-- ---- sets that grow by what identifiers have alike
 
-module _ (old new : Groups) (id : ℕ) (is : (other : ℕ) → other < 0x800
-    → includes new other ≡ (group_of other == group_of id) || includes old other) where
-  pub with_extends : Extends old new
-  with_extends =
-      record {
-        kept = λ other within out. (neither (group_of other == group_of id) (includes old other)
-            (sym (is other within) ∙ out)).1;
-      }
+module _ (alike : ℕ → ℕ) (old new : ℕ → Bool) (id : ℕ) (is : (other : ℕ) → other < 0x800
+    → new other ≡ (alike other == alike id) || old other) where
+  pub still_out : (other : ℕ) → other < 0x800 → new other ≡ false → old other ≡ false
+  still_out other within out = (neither (alike other == alike id) (old other) (sym (is other within) ∙ out)).1
 
-  pub left_out : (other : ℕ) → other < 0x800 → includes new other ≡ false → (other == id) ≡ false
+  pub left_out : (other : ℕ) → other < 0x800 → new other ≡ false → (other == id) ≡ false
   left_out other within out = by (other == id) refl
     where
       by : (t : Bool) → (other == id) ≡ t → t ≡ false
-      by true e = absurd (eqb-false (group_of other) (group_of id)
-          (neither (group_of other == group_of id) (includes old other)
-          (sym (is other within) ∙ out)).0 (ap group_of (eqb-true other id e)))
+      by true e = absurd (eqb-false (alike other) (alike id)
+          (neither (alike other == alike id) (old other)
+          (sym (is other within) ∙ out)).0 (ap alike (eqb-true other id e)))
       by false e = refl
 
-pub never : (old new : Groups) (id other : ℕ) → id ≡ other → other < 0x800
-    → ((other : ℕ) → other < 0x800 → includes new other ≡ (group_of other == group_of id) || includes old other)
-    → includes new other ≡ false → ⊥
-never old new id other same within is out = eqb-false other id (left_out old new id is other within out) (sym same)
+pub never : (id other : ℕ) → id ≡ other → (other == id) ≡ false → ⊥
+never id other same out = eqb-false other id out (sym same)

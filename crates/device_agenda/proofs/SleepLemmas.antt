@@ -1,6 +1,6 @@
 -- That nothing happens to devices that sleep.
 use Rattle.std.proofs.Common.{◌≡◌, ℕ, ◌<◌, ◌==◌, Bool, true, false, not, ◌&&◌, List, [], ◌∷◌, Option, Some, None}
-use Rattle.std.proofs.Common.{IfSome, flat_map, refl, sym, ap, ◌∙◌, inl}
+use Rattle.std.proofs.Common.{IfSome, flat_map, refl, sym, ap, ◌∙◌, ◌⊎◌, inl, inr}
 use Rattle.std.specs.Prelude.{if◌then◌else◌}
 use Rattle.std.specs.List.{AllByRecursion}
 use Rattle.base.specs.Moments.{has_come}
@@ -16,9 +16,12 @@ use Rattle.device_pdos.proofs.LookLemmas.{all_parts}
 use Rattle.device_agenda.specs.Agenda.{IsAgendaOf, Sleeps, at_instant, hears, sleeps_through, stirs}
 use Rattle.device_agenda.specs.Delivered.{Delivered}
 use Rattle.device_agenda.specs.Groups.{includes}
+use Rattle.device_agenda.specs.LowBytes.{AreDeafBeyond, IsDeafBeyond, has_low_byte, has_low_byte_of, sleeps_on}
 use Rattle.device_agenda.specs.declared.agenda.Agenda.{Agenda as Plan}
 use Rattle.device_agenda.specs.declared.groups.Groups.{Groups}
+use Rattle.device_agenda.specs.declared.low_bytes.LowBytes.{LowBytes}
 use Rattle.device_agenda.proofs.AgendaLemmas.{all_later}
+use Rattle.device_agenda.proofs.ReachLemmas.{either_out}
 
 -- ---- one device
 
@@ -57,6 +60,31 @@ module _ (t : ℕ) (groups : Groups) (delivered : Option Delivered) (bound : IfS
         all_quiet ds asleep.1 split.1,
       )
 
+-- what is delivered is of none of the groups, or has none of the low bytes
+deaf_either : (groups : Groups) (bytes : LowBytes) (d : Device) (delivered : Option Delivered)
+    → IfSome delivered (λ x. x.frame.id < 0x800) → Sleeps groups d → IsDeafBeyond bytes d
+    → stirs groups delivered && has_low_byte bytes delivered ≡ false → IfSome delivered (λ x. IsDeafTo x.frame d)
+deaf_either groups bytes d None bound sleeps deaf e = tt
+deaf_either groups bytes d (Some delivered) bound sleeps deaf e =
+    by (either_out (includes groups delivered.frame.id) (has_low_byte_of bytes delivered.frame.id) e)
+  where
+    by : (includes groups delivered.frame.id ≡ false) ⊎ (has_low_byte_of bytes delivered.frame.id ≡ false)
+        → IsDeafTo delivered.frame d
+    by (inl out) = sleeps.deaf delivered.frame bound out
+    by (inr out) = deaf.deaf delivered.frame bound out
+
+module _ (t : ℕ) (groups : Groups) (bytes : LowBytes) (delivered : Option Delivered)
+    (bound : IfSome delivered (λ x. x.frame.id < 0x800))
+    (e : stirs groups delivered && has_low_byte bytes delivered ≡ false) where
+  none_reached : (ds : List Device) → AllByRecursion (Sleeps groups) ds → AreDeafBeyond bytes ds
+      → AllByRecursion (λ m. t < m) (flat_map moments ds) → AllByRecursion (λ d. at_instant t delivered d ≡ Answer d) ds
+  none_reached [] asleep deaf later = tt
+  none_reached (d ∷ ds) asleep deaf later =
+      let split = all_parts (λ m. t < m) (moments d) (flat_map moments ds) later in (
+        one_quiet t d asleep.0.rests split.0 delivered (deaf_either groups bytes d delivered bound asleep.0 deaf.0 e),
+        none_reached ds asleep.1 deaf.1 split.1,
+      )
+
 first_not : (x y : Bool) → not x && y ≡ true → (x ≡ false) × (y ≡ true)
 first_not true y h = absurd cc
 first_not false y h = (refl, h)
@@ -84,12 +112,35 @@ nothing_happens a ds t delivered bound plan e =
     all_quiet t a.groups delivered bound (is_not (stirs a.groups delivered) early.1) ds (plan.asleep asleep.0)
     (moments_later a ds t plan asleep.0 early.0)
 
+pub nothing_reaches : (a : Plan) (bytes : LowBytes) (ds : List Device) (t : ℕ) (delivered : Option Delivered)
+    → IfSome delivered (λ d. d.frame.id < 0x800)
+    → IsAgendaOf a ds → AreDeafBeyond bytes ds → sleeps_on t delivered bytes a ≡ true
+    → AllByRecursion (λ d. at_instant t delivered d ≡ Answer d) ds
+nothing_reaches a bytes ds t delivered bound plan deaf e =
+    let reached : Bool = stirs a.groups delivered && has_low_byte bytes delivered in
+    let asleep = first_not a.awake (not (has_come t a.due) && not reached) e in
+    let early = first_not (has_come t a.due) (not reached) asleep.1 in
+    none_reached t a.groups bytes delivered bound (is_not reached early.1) ds (plan.asleep asleep.0) deaf
+    (moments_later a ds t plan asleep.0 early.0)
+
+-- what sleeps on isn't awake
+sleeps_on_asleep : (a : Plan) (bytes : LowBytes) (t : ℕ) (delivered : Option Delivered)
+    → sleeps_on t delivered bytes a ≡ true → a.awake ≡ false
+sleeps_on_asleep a bytes t delivered e = (first_not a.awake
+    (not (has_come t a.due) && not (stirs a.groups delivered && has_low_byte bytes delivered)) e).0
+
 -- ---- the one device of an agenda
 
 module _ (a : Plan) (d : Device) (t : ℕ) (delivered : Option Delivered) (plan : IsAgendaOf a (d ∷ [])) where
   pub one_sleeps : IfSome delivered (λ x. x.frame.id < 0x800) → sleeps_through t delivered a ≡ true
       → at_instant t delivered d ≡ Answer d
   one_sleeps bound e = (nothing_happens a (d ∷ []) t delivered bound plan e).0
+
+  pub one_sleeps_on : (bytes : LowBytes) → (a.awake ≡ false → IsDeafBeyond bytes d)
+      → IfSome delivered (λ x. x.frame.id < 0x800) → sleeps_on t delivered bytes a ≡ true
+      → at_instant t delivered d ≡ Answer d
+  one_sleeps_on bytes deaf bound e = (nothing_reaches a bytes (d ∷ []) t delivered bound plan
+      (deaf (sleeps_on_asleep a bytes t delivered e), tt) e).0
 
   deaf_where_ignored : (told : Option Delivered) → IfSome told (λ x. is_ignored x.frame d ≡ true)
       → IfSome told (λ x. IsDeafTo x.frame d)

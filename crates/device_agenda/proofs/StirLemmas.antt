@@ -26,9 +26,9 @@ use Rattle.co_device.specs.Device.{Device, is_in}
 use Rattle.co_device.specs.Receiving.{is_ignored, is_ignored_as, reception}
 use Rattle.co_device.proofs.ReceptionLemmas.{Says, reception_says}
 use Rattle.cia301.specs.declared.nmt_state.NmtState.TheVariants.{Operational}
-use Rattle.device_agenda.specs.Groups.{Extends, group_of, includes}
-use Rattle.device_agenda.specs.declared.groups.Groups.{Groups}
-use Rattle.device_agenda.proofs.GroupLemmas.{left_out, neither, with_extends}
+use Rattle.device_agenda.specs.Reach.{Extends, IsReachOf, reaches}
+use Rattle.device_agenda.specs.declared.reach.Reach.{Reach}
+use Rattle.device_agenda.proofs.GroupLemmas.{neither}
 
 -- ---- SYNC
 
@@ -69,9 +69,12 @@ awaits_none d e =
 
 -- ---- frames
 
-pub dark_deaf : (frame : BaseFrame) (d : Device) → d.has_power ≡ false → IsDeafTo frame d
+dark_deaf : (frame : BaseFrame) (d : Device) → d.has_power ≡ false → IsDeafTo frame d
 unfolding is_ignored is_ignored_as reception
 dark_deaf frame d e = inl (rw e refl)
+
+pub dark_reach : (reach : Reach) (d : Device) → d.has_power ≡ false → IsReachOf reach d
+dark_reach reach d e = record { deaf = λ frame within out. dark_deaf frame d e }
 
 neither_both : (on has : Bool) → has ≡ false → not (on && has) ≡ true
 neither_both true has e = rw e refl
@@ -117,45 +120,47 @@ control_id frame e =
     let high : frame.id ≤ 0x77F = within.1 in
     (omega arith, omega arith)
 
--- the groups of the commands of the network management and of the requests to the node's server are in the set
-pub no_service : (none first groups : Groups) (nmt request number : ℕ) → nmt ≡ nmt_id → request ≡ sdo_request_id number
-    → ((other : ℕ) → other < 0x800 → includes first other ≡ (group_of other == group_of nmt) || includes none other)
-    → ((other : ℕ) → other < 0x800 → includes groups other ≡ (group_of other == group_of request)
-    || includes first other) → (id : ℕ) → id < 0x800 → includes groups id ≡ false
+-- the commands of the network management and the requests to the node's server are among them
+pub no_service : (first reach : Reach) (nmt request number : ℕ) → nmt ≡ nmt_id → request ≡ sdo_request_id number
+    → ((other : ℕ) → other < 0x800 → reaches first other ≡ false → (other == nmt) ≡ false) → Extends first reach
+    → ((other : ℕ) → other < 0x800 → reaches reach other ≡ false → (other == request) ≡ false)
+    → (id : ℕ) → id < 0x800 → reaches reach id ≡ false
     → ((id == nmt_id) ≡ false) × ((id == sdo_request_id number) ≡ false)
-no_service none first groups nmt request number nmt_is request_is first_is groups_are id within out = (
-  ap (λ n. id == n) (sym nmt_is)
-      ∙ left_out none first nmt first_is id within ((with_extends first groups request groups_are).kept id within out),
-  ap (λ n. id == n) (sym request_is) ∙ left_out first groups request groups_are id within out,
+no_service first reach nmt request number nmt_is request_is no_command more no_request id within out = (
+  ap (λ n. id == n) (sym nmt_is) ∙ no_command id within (more.kept id within out),
+  ap (λ n. id == n) (sym request_is) ∙ no_request id within out,
 )
 
--- a frame outside a set that grew by the groups of each service is nothing to the device
-module _ (d : Device) (groups first second last : Groups)
-    (commands : (id : ℕ) → id < 0x800 → includes groups id ≡ false
-    → ((id == nmt_id) ≡ false) × ((id == sdo_request_id d.number) ≡ false)) (first_more : Extends groups first)
-    (syncs : includes first (sync_identifier d.learnt d.values) ≡ false → AwaitsNoSync d)
+-- a frame that is outside, once they grew by those of each service, is nothing to the device
+module _ (d : Device) (reach first second last : Reach)
+    (commands : (id : ℕ) → id < 0x800 → reaches reach id ≡ false
+    → ((id == nmt_id) ≡ false) × ((id == sdo_request_id d.number) ≡ false)) (first_more : Extends reach first)
+    (syncs : reaches first (sync_identifier d.learnt d.values) ≡ false → AwaitsNoSync d)
     (second_more : Extends first second) (producers : (producer : ℕ) → producer < 0x100
-    → includes second (error_control_id producer) ≡ false
+    → reaches second (error_control_id producer) ≡ false
     → list_any (λ c. expects producer c.entry) d.consumers ≡ false) (last_more : Extends second last)
-    (rpdos : (id : ℕ) → id < 0x800 → includes last id ≡ false
+    (rpdos : (id : ℕ) → id < 0x800 → reaches last id ≡ false
     → list_any (λ p. has_identifier id p.configuration) d.rpdos ≡ false) where
-  unheard_of : (id producer : ℕ) → id ≡ error_control_id producer → producer < 0x100 → includes second id ≡ false
+  unheard_of : (id producer : ℕ) → id ≡ error_control_id producer → producer < 0x100 → reaches second id ≡ false
       → any_expects producer d.consumers ≡ false
   unfolding any_expects
-  unheard_of id producer is within out = producers producer within (ap (includes second) (sym is) ∙ out)
+  unheard_of id producer is within out = producers producer within (ap (reaches second) (sym is) ∙ out)
 
-  unkept_of : (id : ℕ) → id < 0x800 → includes last id ≡ false → any_has_identifier id d.rpdos ≡ false
+  unkept_of : (id : ℕ) → id < 0x800 → reaches last id ≡ false → any_has_identifier id d.rpdos ≡ false
   unfolding any_has_identifier
   unkept_of id within out = rpdos id within out
 
-  pub stirs_none : (frame : BaseFrame) → frame.id < 0x800 → includes last frame.id ≡ false → IsDeafTo frame d
+  stirs_none : (frame : BaseFrame) → frame.id < 0x800 → reaches last frame.id ≡ false → IsDeafTo frame d
   stirs_none frame within out =
-      let third_out : includes second frame.id ≡ false = last_more.kept frame.id within out in
-      let second_out : includes first frame.id ≡ false = second_more.kept frame.id within third_out in
-      let first_out : includes groups frame.id ≡ false = first_more.kept frame.id within second_out in
+      let third_out : reaches second frame.id ≡ false = last_more.kept frame.id within out in
+      let second_out : reaches first frame.id ≡ false = second_more.kept frame.id within third_out in
+      let first_out : reaches reach frame.id ≡ false = first_more.kept frame.id within second_out in
       let none = commands frame.id within first_out in
       deaf frame d none.0 none.1
-      (λ e. syncs (ap (includes first) (sym e) ∙ second_out))
+      (λ e. syncs (ap (reaches first) (sym e) ∙ second_out))
       (λ e. let control = control_id frame e
       in unheard_of frame.id (frame.id - error_control_id 0) control.1 control.0 third_out)
       (unkept_of frame.id within out)
+
+  pub reach_of : IsReachOf last d
+  reach_of = record { deaf = stirs_none }

@@ -1,5 +1,5 @@
 -- Groups of identifiers (this profile's own).
-use Rattle.std.specs.Prelude.{◌≡◌, ◌<◌, ℕ, ◌+◌, ◌*◌, ◌/◌, ◌%◌, ◌==◌, Bool, false}
+use Rattle.std.specs.Prelude.{ℕ, ◌+◌, ◌*◌, ◌/◌, ◌%◌, ◌==◌, Bool}
 use Rattle.std.specs.Int.{bit_at}
 use Rattle.device_agenda.specs.declared.groups.Groups.{Groups}
 
@@ -10,7 +10,3 @@ group_of id = 4 * (id / 128) + id % 4
 -- a set has the group of an identifier
 abbrev pub includes : Groups → ℕ → Bool
 includes groups id = bit_at groups.bits (group_of id) == 1
-
--- a set has all the groups of another
-pub record Extends (old new : Groups) : Type 0 where
-  pub kept : (id : ℕ) → id < 0x800 → includes new id ≡ false → includes old id ≡ false

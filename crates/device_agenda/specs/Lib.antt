@@ -1,4 +1,6 @@
 pub mod Agenda
 pub mod Delivered
 pub mod Groups
+pub mod LowBytes
+pub mod Reach
 pub mod Schedule

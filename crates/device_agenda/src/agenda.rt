@@ -3,9 +3,11 @@
 ghost use Rattle.std.specs.Prelude.{◌≡◌, ◌<◌, ◌++◌, List, [], true, false, IfSome, IsTrue};
 ghost use Rattle.co_device.specs.Device.{Device};
 ghost use Rattle.device_agenda.specs.Agenda.{IsAgendaOf, sleeps_through};
+ghost use Rattle.device_agenda.specs.LowBytes.{sleeps_on};
 
 use crate::delivery::Delivery;
 use crate::groups::Groups;
+use crate::low_bytes::LowBytes;
 use base::{earlier, has_come};
 
 /// When devices have to run: at the moment at which one is due, and where a frame is delivered of a group of
@@ -66,5 +68,16 @@ impl Agenda {
         ensures bound { IsTrue result → IfSome delivery.now (λ d. d.frame.id < 0x800) }
     {
         !self.awake && !has_come(t, self.due) && !Delivery::stirs(self.groups, delivery)
+    }
+
+    /// Whether nothing happens to its devices at the moment t, at which this is delivered, where these are the low
+    /// bytes of what is something to them.
+    pub fn sleeps_on(&self, low_bytes: &LowBytes, t: u64, delivery: &Option<Delivery>) -> bool
+        ensures sleeps { result ≡ sleeps_on t delivery.now low_bytes.now self.now }
+        ensures bound { IsTrue result → IfSome delivery.now (λ d. d.frame.id < 0x800) }
+    {
+        !self.awake
+            && !has_come(t, self.due)
+            && !Delivery::reaches(self.groups, low_bytes, delivery)
     }
 }

@@ -1,9 +1,11 @@
 //! What is delivered on a bus.
 
-ghost use Rattle.std.specs.Prelude.{◌≡◌, ◌<◌, IfSome};
+ghost use Rattle.std.specs.Prelude.{◌≡◌, ◌<◌, ◌&&◌, IfSome};
 ghost use Rattle.device_agenda.specs.Agenda.{stirs};
+ghost use Rattle.device_agenda.specs.LowBytes.{has_low_byte};
 
 use crate::groups::{Groups, group_of};
+use crate::low_bytes::{LowBytes, low_byte};
 use can_frame::Frame;
 use std::marker::Model;
 
@@ -13,6 +15,7 @@ pub struct Delivery {
     pub(crate) sender: u8,
     pub(crate) frame: Frame,
     group: u32,
+    low: u8,
 }
 
 impl Model for Delivery {
@@ -22,7 +25,7 @@ impl Model for Delivery {
 
     ghost view = { λ d. record { sender = d.sender; frame = d.frame } };
 
-    ghost invariant = { λ d. IsInGroup (record { sender = d.sender; frame = d.frame }) d.group };
+    ghost invariant = { λ d. IsInGroup (record { sender = d.sender; frame = d.frame }) d.group d.low };
 }
 
 impl Delivery {
@@ -34,6 +37,7 @@ impl Delivery {
             sender,
             frame,
             group: group_of(frame.id()),
+            low: low_byte(frame.id()),
         }
     }
 
@@ -45,6 +49,17 @@ impl Delivery {
         match delivery {
             None => false,
             Some(delivery) => groups.has(delivery.group),
+        }
+    }
+
+    /// Whether it is of one of these groups and has one of these low bytes, if it is there.
+    pub(crate) fn reaches(groups: Groups, low_bytes: &LowBytes, delivery: &Option<Delivery>) -> bool
+        ensures reaches { result ≡ stirs groups delivery.now && has_low_byte low_bytes.now delivery.now }
+        ensures bound { IfSome delivery.now (λ d. d.frame.id < 0x800) }
+    {
+        match delivery {
+            None => false,
+            Some(delivery) => groups.has(delivery.group) & low_bytes.has(delivery.low),
         }
     }
 }

@@ -2,13 +2,16 @@
 
 ghost use Rattle.std.specs.Prelude.{◌≡◌, ◌↔◌, ◌<◌, ◌≤◌, ◌∷◌, [], Some, true, false, length, remove, slice_get};
 ghost use Rattle.std.specs.Prelude.{IfOk, IfSome, OnOk, OnErr, IsErr, IsTrue};
-ghost use Rattle.image_parts.specs.Asking.{Answer, outcome};
-ghost use Rattle.image_parts.specs.Record.{IsAsked, Lasts};
+ghost use Rattle.image_parts.specs.Asking.{Answer};
+ghost use Rattle.image_parts.specs.Record.{GoesBy, Lasts};
 ghost use Rattle.can_frame.specs.Winner.{contenders_of, IsWinner};
 ghost use Rattle.co_values.specs.Values.{longest_value};
 ghost use Rattle.co_device.specs.Device.{next_due, after_power, after_instant, after_set, without_power};
 ghost use Rattle.co_device.specs.Receiving.{is_ignored};
 ghost use Rattle.device_agenda.specs.Agenda.{at_instant, hears, IsAgendaOf};
+ghost use Rattle.device_agenda.specs.LowBytes.{IsDeafBeyond};
+ghost use Rattle.device_agenda.specs.Reach.{IsReachOf};
+ghost use Rattle.device_agenda.specs.Schedule.{IsScheduled};
 ghost use Rattle.device_laws.specs.Rest.{Rests};
 ghost use Rattle.device_objects.specs.Profile.{sync_identifier as identifier_of_sync};
 ghost use Rattle.cia301.specs.PdoObjects.{is_of_pdos};
@@ -16,6 +19,8 @@ ghost use Rattle.cia301.specs.PdoObjects.{is_of_pdos};
 use crate::agenda::Agenda;
 use crate::delivery::Delivery;
 use crate::ignored::ignores;
+use crate::low_bytes::LowBytes;
+use crate::reach::Reach;
 use crate::schedule::Schedule;
 use crate::stirring::stirring;
 use base::has_come;
@@ -55,12 +60,13 @@ impl Model for ScheduledDevice {
 
     ghost view = { λ s. s.schedule.value.device };
 
-    ghost invariant = { λ s. IsScheduled s.schedule.value.agenda s.schedule.value.sync s.schedule.value.device };
+    ghost invariant = { λ s. IsScheduled s.schedule.value.agenda s.schedule.value.low_bytes s.schedule.value.sync
+        s.schedule.value.device };
 }
 
-/// The agenda of a device that ran, with this identifier of SYNC.
-fn agenda_of(device: &Device, sync: u16) -> Agenda
-    requires sync { sync ≡ identifier_of_sync device.now.learnt device.now.values }
+/// The agenda of a device that ran, to which frames of other identifiers than these are nothing.
+fn agenda_of(device: &Device, reach: &Reach) -> Agenda
+    requires reach { IsReachOf reach.now device.now }
     requires rests { Rests device.now }
     requires unspent { device.now.spent ≡ false }
     ensures { IsAgendaOf result (device.now ∷ []) }
@@ -68,9 +74,22 @@ fn agenda_of(device: &Device, sync: u16) -> Agenda
     Agenda {
         awake: false,
         due: device.next_due(),
-        groups: stirring(device, sync),
+        groups: reach.groups,
         waits: device.contender().is_some(),
     }
+}
+
+/// Plans a device anew, which ran.
+fn plan(schedule: &mut Schedule)
+    requires rests { Rests schedule.old.device }
+    requires unspent { schedule.old.device.spent ≡ false }
+    ensures device { schedule.new.device ≡ schedule.old.device }
+    ensures plan { IsScheduled schedule.new.agenda schedule.new.low_bytes schedule.new.sync schedule.new.device }
+{
+    schedule.sync = sync_identifier(schedule.device.learnt(), schedule.device.values());
+    let reach = stirring(&schedule.device, schedule.sync);
+    schedule.agenda = agenda_of(&schedule.device, &reach);
+    schedule.low_bytes = reach.low_bytes;
 }
 
 /// Whether what is delivered is nothing that a device with this identifier of SYNC takes.
@@ -93,9 +112,8 @@ fn hear<P: Shapes>(
     shapes: &mut P,
 ) -> Result<(), AllocError>
     requires { t < END }
-    ensures state { OnOk result (device.new ≡ outcome (hears t delivery.now device.old) (P.seen shapes.old).image) }
-    ensures asked { OnOk result (IsAsked (hears t delivery.now device.old)
-        (P.seen shapes.old) (P.seen shapes.new) (P.asks shapes.old) (P.asks shapes.new)) }
+    ensures ran { OnOk result (GoesBy (hears t delivery.now device.old) device.new
+        P.seen P.asks shapes.old shapes.new) }
     ensures lasts { Lasts (P.seen shapes.old) (P.seen shapes.new) }
     ensures still { OnOk result (IsTrue device.old.spent → IsTrue device.new.spent) }
     ensures spent { OnErr result (IsTrue device.new.spent) }
@@ -131,10 +149,8 @@ fn run<P: Shapes>(
     shapes: &mut P,
 ) -> Result<(), AllocError>
     requires { t < END }
-    ensures state { OnOk result (device.new ≡ outcome (at_instant t delivery.now device.old)
-        (P.seen shapes.old).image) }
-    ensures asked { OnOk result (IsAsked (at_instant t delivery.now device.old)
-        (P.seen shapes.old) (P.seen shapes.new) (P.asks shapes.old) (P.asks shapes.new)) }
+    ensures ran { OnOk result (GoesBy (at_instant t delivery.now device.old) device.new
+        P.seen P.asks shapes.old shapes.new) }
     ensures lasts { Lasts (P.seen shapes.old) (P.seen shapes.new) }
     ensures refused { IsTrue device.old.spent → IsErr result }
     ensures spent { OnErr result (IsTrue device.new.spent) }
@@ -159,6 +175,7 @@ impl ScheduledDevice {
             Schedule {
                 device: Device::new(alloc, number),
                 agenda: Agenda::unknown(),
+                low_bytes: LowBytes::none(),
                 sync: 0,
             },
         )?;
@@ -220,6 +237,17 @@ impl ScheduledDevice {
         self.schedule.agenda
     }
 
+    /// The low bytes of the identifiers of frames that may be something to it.
+    pub fn low_bytes(&self) -> LowBytes
+        ensures { IsDeafBeyond result self.now }
+    {
+        if self.schedule.agenda.awake {
+            LowBytes::all()
+        } else {
+            self.schedule.low_bytes
+        }
+    }
+
     /// The frame with which it contends for the bus: the first of those waiting that have the least
     /// identifier. Takes constant time.
     pub fn contender(&self) -> Option<Contender>
@@ -246,9 +274,7 @@ impl ScheduledDevice {
     /// Switches the power of the device at the moment t. Where it is as it was, nothing changes.
     pub fn power<P: Shapes>(&mut self, on: bool, t: u64, shapes: &mut P) -> Result<(), AllocError>
         requires { t < END }
-        ensures state { OnOk result (self.new ≡ outcome (after_power on t self.old) (P.seen shapes.old).image) }
-        ensures asked { OnOk result (IsAsked (after_power on t self.old)
-            (P.seen shapes.old) (P.seen shapes.new) (P.asks shapes.old) (P.asks shapes.new)) }
+        ensures ran { OnOk result (GoesBy (after_power on t self.old) self.new P.seen P.asks shapes.old shapes.new) }
         ensures lasts { Lasts (P.seen shapes.old) (P.seen shapes.new) }
     {
         let schedule = Rc::make_mut(&mut self.schedule)?;
@@ -279,10 +305,8 @@ impl ScheduledDevice {
         shapes: &mut P,
     ) -> Result<bool, AllocError>
         requires { t < END }
-        ensures state { OnOk result (self.new ≡ outcome (at_instant t delivery.now self.old)
-            (P.seen shapes.old).image) }
-        ensures asked { OnOk result (IsAsked (at_instant t delivery.now self.old)
-            (P.seen shapes.old) (P.seen shapes.new) (P.asks shapes.old) (P.asks shapes.new)) }
+        ensures ran { OnOk result (GoesBy (at_instant t delivery.now self.old) self.new
+            P.seen P.asks shapes.old shapes.new) }
         ensures lasts { Lasts (P.seen shapes.old) (P.seen shapes.new) }
         ensures still { IfOk result (λ ran. ran ≡ false → self.new ≡ self.old) }
     {
@@ -292,8 +316,7 @@ impl ScheduledDevice {
         let schedule = Rc::make_mut(&mut self.schedule)?;
         schedule.agenda = Agenda::unknown();
         run(&mut schedule.device, t, delivery, shapes)?;
-        schedule.sync = sync_identifier(schedule.device.learnt(), schedule.device.values());
-        schedule.agenda = agenda_of(&schedule.device, schedule.sync);
+        plan(schedule);
         Ok(true)
     }
 
@@ -301,7 +324,11 @@ impl ScheduledDevice {
     fn does_nothing(&self, t: u64, delivery: &Option<Delivery>) -> bool
         ensures { IsTrue result → at_instant t delivery.now self.now ≡ Answer self.now }
     {
-        if self.schedule.agenda.sleeps_through(t, delivery) {
+        if self
+            .schedule
+            .agenda
+            .sleeps_on(&self.schedule.low_bytes, t, delivery)
+        {
             return true;
         }
         self.is_left_alone(t, delivery)

@@ -9,7 +9,7 @@ use Rattle.std.proofs.lemmas.Option.{same_Some}
 use Rattle.std.specs.List.{cons_option, find, flat_map}
 use Rattle.std.specs.Option.{option_map_or, option_or, unwrap_or}
 use Rattle.ini_text.specs.Content.{Pair, Section, same, value_at}
-use Rattle.eds_device.proofs.PlaceLemmas.{found_passes, index_is}
+use Rattle.eds_places.proofs.PlaceLemmas.{found_passes, index_is}
 use Rattle.eds_entries.specs.declared.object_type.ObjectType.TheVariants.{Other, Variable}
 use Rattle.co_values.specs.declared.data_type.DataType.TheVariants.{NotModelled}
 use Rattle.eds_device.specs.Described.{Described, written, access_named, access_of, description_of, description_by}

@@ -20,7 +20,7 @@ use Rattle.co_values.specs.declared.data_type.DataType.TheVariants.{NotModelled}
 use Rattle.plain_text.specs.Digits.{digits_number}
 use Rattle.co_values.specs.Types.{is_modelled}
 use Rattle.co_values.specs.Values.{text_of_value}
-use Rattle.eds_device.proofs.PlaceLemmas.{found_passes, index_is}
+use Rattle.eds_places.proofs.PlaceLemmas.{found_passes, index_is}
 use Rattle.eds_device.specs.Described.{Described, description_of, description_by, kind_at, listed_value, sub_listed}
 use Rattle.eds_device.specs.Described.{value_by}
 use Rattle.eds_device.specs.Names.{index_named, place_named, values_named}

@@ -18,7 +18,7 @@ use Rattle.eds_device.specs.declared.fixed.Fixed.{Fixed}
 use Rattle.eds_device.specs.Described.{description_of, description_by}
 use Rattle.eds_device.specs.Entries.{default_at, default_by}
 use Rattle.eds_device.specs.Fixed.{IsFixed, IsFixedAt, AreFixed}
-use Rattle.eds_device.specs.Origins.{Origin, origin_of}
+use Rattle.eds_places.specs.Origins.{Origin, origin_of}
 
 -- ---- texts
 

@@ -1,15 +1,8 @@
-pub mod AddingLemmas
 pub mod CommonLemmas
-pub mod ConverseLemmas
 pub mod FixedLemmas
 pub mod IdentityLemmas
-pub mod IndexLemmas
 pub mod LawLemmas
 pub mod LengthLemmas
 pub mod LimitLemmas
-pub mod ListedLemmas
 pub mod MapLemmas
-pub mod OnceLemmas
-pub mod PlaceLemmas
 pub mod ReadLemmas
-pub mod TableLemmas

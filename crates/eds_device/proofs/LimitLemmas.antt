@@ -11,13 +11,14 @@ use Rattle.ini_text.specs.Content.{Content, content_of}
 use Rattle.ini_text.specs.Text.{is_out_of_range, has_bad_byte}
 use Rattle.co_dict.specs.Places.{place_cmp}
 use Rattle.co_dict.proofs.PlaceLemmas.{places_total}
-use Rattle.eds_device.specs.declared.fault.DeviceFault.{DeviceFault}
-use Rattle.eds_device.specs.declared.fault.DeviceFault.TheVariants.{Range, Limit, BadByte}
-use Rattle.eds_device.specs.Faults.{HasTooMany, most_entries, device_of}
-use Rattle.eds_device.specs.Places.{pairs_of}
-use Rattle.eds_device.proofs.ConverseLemmas.{given_by_rules}
-use Rattle.eds_device.proofs.LawLemmas.{contains_has, has_contains}
-use Rattle.eds_device.proofs.PlaceLemmas.{pairs_sorted}
+use Rattle.eds_places.specs.declared.fault.DeviceFault.{DeviceFault}
+use Rattle.eds_places.specs.declared.fault.DeviceFault.TheVariants.{Range, Limit, BadByte}
+use Rattle.eds_places.specs.Faults.{most_entries}
+use Rattle.eds_device.specs.Faults.{HasTooMany, device_of}
+use Rattle.eds_places.specs.Places.{pairs_of}
+use Rattle.eds_places.proofs.ConverseLemmas.{given_by_rules}
+use Rattle.eds_places.proofs.GivenLemmas.{contains_has, has_contains}
+use Rattle.eds_places.proofs.PlaceLemmas.{pairs_sorted}
 
 -- places that the rules give are no more than the entries
 no_more : (text : List ℕ) (many : HasTooMany (content_of text).sections)

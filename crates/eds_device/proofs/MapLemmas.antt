@@ -3,7 +3,6 @@ use Rattle.std.proofs.Common.{◌≡◌, ℕ, ◌+◌, ◌<◌, Bool, true, fals
 use Rattle.std.proofs.Common.{Option, None, Some, refl, sym, ap, ◌∙◌}
 use Rattle.std.specs.Prelude.{if◌then◌else◌}
 use Rattle.std.specs.BTreeMap.{is_at}
-use Rattle.std.specs.Cmp.{Equal-is}
 use Rattle.std.specs.FinMap.{FinMap, empty, find, from_entries, get, get-empty, get-from_entries, get-insert, insert}
 use Rattle.std.specs.FinMap.{same_map}
 use Rattle.std.specs.Option.{option_map_or}
@@ -12,11 +11,7 @@ use Rattle.std.proofs.lemmas.List.Folds.{list_any-append}
 use Rattle.co_dict.proofs.PlaceLemmas.{places_exact, places_total}
 use Rattle.co_dict.specs.Places.{place_cmp}
 use Rattle.eds_device.specs.Entries.{given_at}
-use Rattle.eds_device.proofs.PlaceLemmas.{has_place}
-
--- places that compare alike are one
-pub alike : (q p : ℕ × ℕ) → is_at (place_cmp q) p ≡ true → q ≡ p
-alike q p h = places_exact q p ((Equal-is (place_cmp q p)).0 h)
+use Rattle.eds_places.proofs.PlaceLemmas.{alike, has_place}
 
 module _ {X : Type 0} (f : ℕ × ℕ → Option X) where
   abbrev pub among : ℕ × ℕ → List (ℕ × ℕ) → Option X

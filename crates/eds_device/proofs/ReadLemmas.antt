@@ -1,17 +1,17 @@
 -- What reading a device gives, and what reading the INI text gave.
-use Rattle.std.proofs.Common.{◌≡◌, ℕ, ◌≤◌, Bool, true, false, List, length, Result, Ok, Err, IsTrue, refl}
-use Rattle.std.specs.Prelude.{if◌then◌else◌, nat_lt}
+use Rattle.std.proofs.Common.{◌≡◌, ℕ, Bool, true, false, List, Result, Err, IsTrue, refl}
+use Rattle.std.specs.Prelude.{if◌then◌else◌}
 use Rattle.std.specs.Bool.{IsFalse, OnFalse}
 use Rattle.ini_text.specs.Content.{Content, content_of}
 use Rattle.ini_text.specs.Text.{is_out_of_range, has_bad_byte}
 use Rattle.ini_text.specs.declared.IniFault.{IniFault}
 use Rattle.ini_text.specs.declared.IniFault.TheVariants as ini
-use Rattle.eds_device.specs.declared.fault.DeviceFault.{DeviceFault}
-use Rattle.eds_device.specs.declared.fault.DeviceFault.TheVariants.{Memory, Range, Limit, BadByte}
-use Rattle.eds_device.specs.Faults.{is_memory, unless_too_many, most_entries, device_of}
-use Rattle.eds_device.specs.FaultOf.{fault_of}
-use Rattle.eds_device.specs.Places.{pairs_of}
-use Rattle.eds_device.proofs.AddingLemmas.{not_refused}
+use Rattle.eds_places.specs.declared.fault.DeviceFault.{DeviceFault}
+use Rattle.eds_places.specs.declared.fault.DeviceFault.TheVariants.{Range, BadByte}
+use Rattle.eds_places.specs.Faults.{is_memory, unless_too_many}
+use Rattle.eds_device.specs.Faults.{device_of}
+use Rattle.eds_places.specs.FaultOf.{fault_of}
+use Rattle.eds_places.specs.Places.{pairs_of}
 
 pub ini_refused : (fault : IniFault) (text : List ℕ) → (fault ≡ ini.Range → IsTrue (is_out_of_range text))
     → (fault ≡ ini.BadByte → IsFalse (is_out_of_range text) × IsTrue (has_bad_byte text))
@@ -34,36 +34,3 @@ read_as text content r b is = rw is (by (is_out_of_range text) (has_bad_byte tex
     by true t f g = absurd (f refl)
     by false true f g = absurd (g (refl, refl))
     by false false f g = refl
-
-pub places_refused : (fault : DeviceFault) (places : List (ℕ × ℕ)) (content : Content)
-    → OnFalse (is_memory fault) (unless_too_many places places ≡ Err fault)
-    → OnFalse (is_memory fault) (unless_too_many places content ≡ Err fault)
-places_refused Memory places content h = tt
-places_refused Range places content h = by (nat_lt most_entries (length places)) h
-  where
-    by : (b : Bool) → (let r : Result (List (ℕ × ℕ)) DeviceFault = if b then Err Limit else Ok places in r ≡ Err Range)
-        → (let r : Result Content DeviceFault = if b then Err Limit else Ok content in r ≡ Err Range)
-    by true e = cc
-    by false e = cc
-places_refused Limit places content h = by (nat_lt most_entries (length places)) h
-  where
-    by : (b : Bool) → (let r : Result (List (ℕ × ℕ)) DeviceFault = if b then Err Limit else Ok places in r ≡ Err Limit)
-        → (let r : Result Content DeviceFault = if b then Err Limit else Ok content in r ≡ Err Limit)
-    by true e = refl
-    by false e = cc
-places_refused BadByte places content h = by (nat_lt most_entries (length places)) h
-  where
-    by : (b : Bool) → (let r : Result (List (ℕ × ℕ)) DeviceFault = if b then Err Limit else Ok places
-        in r ≡ Err BadByte) → (let r : Result Content DeviceFault = if b then Err Limit else Ok content
-        in r ≡ Err BadByte)
-    by true e = cc
-    by false e = cc
-
-pub places_given_back : (places given : List (ℕ × ℕ)) (content : Content) → unless_too_many places places ≡ Ok given
-    → (unless_too_many places content ≡ Ok content) × ((given ≡ places) × (length given ≤ most_entries))
-places_given_back places given content h = (by (nat_lt most_entries (length places)) h, not_refused places given h)
-  where
-    by : (b : Bool) → (let r : Result (List (ℕ × ℕ)) DeviceFault = if b then Err Limit else Ok places in r ≡ Ok given)
-        → (let r : Result Content DeviceFault = if b then Err Limit else Ok content in r ≡ Ok content)
-    by true e = cc
-    by false e = refl

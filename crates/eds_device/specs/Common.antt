@@ -7,7 +7,7 @@ use Rattle.co_dict.specs.Shapes.{Shaped}
 use Rattle.eds_device.specs.declared.common.Common.{Common}
 use Rattle.eds_device.specs.Entries.{shape_of}
 use Rattle.eds_device.specs.Fixed.{AreFixed}
-use Rattle.eds_device.specs.Places.{pairs_of}
+use Rattle.eds_places.specs.Places.{pairs_of}
 
 -- a `$`, as `$NODEID` has; no number has one
 abbrev pub has_dollar : List ℕ → Bool

@@ -1,15 +1,15 @@
 -- What an EDS says of an entry (CiA 306), its texts as they stand.
 use Rattle.std.specs.Prelude.{ℕ, ◌==◌, if◌then◌else◌, List, Option, option_map, option_and_then, codes}
-use Rattle.std.specs.List.{find}
 use Rattle.std.specs.Option.{option_map_or}
-use Rattle.ini_text.specs.Content.{Section, Pair, value_at}
+use Rattle.ini_text.specs.Content.{Section, value_at}
 use Rattle.co_values.specs.declared.data_type.DataType.{DataType}
 use Rattle.co_values.specs.declared.data_type.DataType.TheVariants.{NotModelled}
 unfoldable pub use Rattle.eds_entries.specs.Described.{access_named, access_of, is_set}
 pub use Rattle.eds_entries.specs.Described.{text_at, is_not_zero, Default, written, count, Described, description_in}
 pub use Rattle.eds_entries.specs.Described.{highest_sub, unless_empty, written_text}
 unfoldable pub use Rattle.eds_entries.specs.Names.{sub_listed}
-use Rattle.eds_device.specs.Origins.{Origin, own, compact, is_index, origin_of, values_section}
+unfoldable pub use Rattle.eds_places.specs.Origins.{listed_value}
+use Rattle.eds_places.specs.Origins.{Origin, own, compact, origin_of}
 
 -- what the section says of an entry that stands there
 abbrev pub description_by : ℕ → Origin → Described
@@ -23,12 +23,6 @@ description_of ss index sub = option_map (description_by sub) (origin_of ss inde
 -- the type of an entry, not modelled where there is none
 unfoldable pub kind_at : List Section → ℕ × ℕ → DataType
 kind_at ss place = option_map_or (λ (d : Described). d.kind) (description_of ss place.0 place.1) NotModelled
-
--- the value that `[xxxxValue]` lists for a sub: of two spellings of it the first counts
-unfoldable pub listed_value : List Section → ℕ → ℕ → Option (List ℕ)
-listed_value ss index sub =
-    option_and_then (λ s. option_map (λ (p : Pair). p.value) (find (λ p. is_index sub (sub_listed p.key)) s.pairs))
-    (values_section ss index)
 
 -- an entry's DefaultValue, unless it is empty; sub 0 of a compact object has none
 unfoldable pub default_text : List Section → ℕ → ℕ → Option (List ℕ)

@@ -12,7 +12,7 @@ use Rattle.co_dict.specs.declared.entry.Entry.{Entry}
 use Rattle.co_dict.specs.Shapes.{Shaped}
 use Rattle.co_dict.specs.Values.{Values}
 use Rattle.eds_device.specs.Described.{Default, written, count, Described, description_of, is_not_zero}
-use Rattle.eds_device.specs.Places.{pairs_of}
+use Rattle.eds_places.specs.Places.{pairs_of}
 
 -- the number of the value that a text spells
 abbrev pub number_spelled : DataType → List ℕ → ℕ → Option ℤ

@@ -1,15 +1,11 @@
-pub mod Adding
 pub mod Common
 pub mod Described
 pub mod Entries
-pub mod FaultOf
 pub mod Faults
 pub mod Fixed
 pub mod Identity
-pub mod Index
 pub mod Names
 pub mod Origins
 pub mod Places
 pub mod Sections
 pub mod Shown
-pub mod Table

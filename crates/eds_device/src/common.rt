@@ -7,7 +7,7 @@ ghost use Rattle.co_dict.specs.Places.{place_cmp};
 ghost use Rattle.eds_device.specs.Common.{has_dollar, IsCommon, IsOfAll};
 ghost use Rattle.eds_device.specs.Entries.{entry_at, entry_by, limit_at, shape_of};
 ghost use Rattle.eds_device.specs.Fixed.{AreFixed};
-ghost use Rattle.eds_device.specs.Places.{pairs_of};
+ghost use Rattle.eds_places.specs.Places.{pairs_of};
 ghost use Rattle.eds_entries.specs.Shown.{description_shown};
 
 use crate::data_sheet::DataSheet;
@@ -106,13 +106,13 @@ impl DataSheet {
     fn common_defaults(&self) -> Result<Vec<Fixed>, AllocError>
         ensures { IfOk result (λ v. AreFixed self.now.sections (pairs_of self.now.sections) v.items) }
     {
-        let reading = &*self.reading;
+        let reading = self.reading();
         fixed_defaults(
             self.allocator(),
-            reading.ini.sections(),
-            &reading.said,
-            &reading.places,
-            &reading.stands,
+            reading.sections(),
+            reading.said(),
+            reading.pairs(),
+            reading.stands(),
         )
     }
 

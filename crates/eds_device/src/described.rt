@@ -1,12 +1,37 @@
 //! What an EDS says of an entry (CiA 306).
-ghost use Rattle.std.specs.Prelude.{◌≡◌};
+ghost use Rattle.std.specs.Prelude.{◌≡◌, map};
 ghost use Rattle.std.specs.Option.{option_copied, option_map};
+ghost use Rattle.eds_entries.specs.Said.{said_in};
 ghost use Rattle.eds_entries.specs.Shown.{description_shown};
-ghost use Rattle.eds_device.specs.Described.{description_of, kind_at, default_text, value_text};
+ghost use Rattle.eds_places.specs.Table.{standing};
+ghost use Rattle.eds_device.specs.Described.{description_by, description_of, kind_at, default_text, value_text};
 
 use crate::data_sheet::DataSheet;
 use co_values::DataType;
-use eds_entries::{DefaultText, Described, highest_sub, unless_empty};
+use eds_entries::{DefaultText, Described, Said, highest_sub, unless_empty};
+use eds_places::Stand;
+use ini_text::Section;
+
+/// What is said of an entry that stands there.
+pub(crate) fn described_by<'a>(
+    sections: &'a [Section],
+    said: &'a [Said],
+    stand: Option<Stand>,
+    sub: u8,
+) -> Option<Described<'a>>
+    requires { said.now ≡ map said_in sections.now }
+    ensures { option_map description_shown result ≡ option_map (description_by sub) (standing sections.now stand) }
+{
+    let stand = stand?;
+    let section = sections.get(stand.position)?;
+    let said = said.get(stand.position)?;
+    if sub == 0
+        && let Some(highest) = stand.highest
+    {
+        return Some(highest_sub(highest));
+    }
+    Some(said.described(section))
+}
 
 impl DataSheet {
     /// What the EDS says of an entry; `None` where there is no such entry.
@@ -14,14 +39,9 @@ impl DataSheet {
     pub(crate) fn described(&self, index: u16, sub: u8) -> Option<Described<'_>>
         ensures { option_map description_shown result ≡ description_of self.now.sections index sub }
     {
-        let stand = self.stand(index, sub)?;
-        let (section, said) = self.said_at(stand.position)?;
-        if sub == 0
-            && let Some(highest) = stand.highest
-        {
-            return Some(highest_sub(highest));
-        }
-        Some(said.described(section))
+        let reading = self.reading();
+        let stand = reading.stand(index, sub);
+        described_by(reading.sections(), reading.said(), stand, sub)
     }
 
     /// The type of an entry; `NotModelled` too where there is no such entry.
@@ -54,11 +74,12 @@ impl DataSheet {
     pub fn value_text(&self, index: u16, sub: u8) -> Option<&[u8]>
         ensures { option_copied result ≡ value_text self.now.sections index sub }
     {
-        let stand = self.stand(index, sub)?;
-        let (section, said) = self.said_at(stand.position)?;
+        let reading = self.reading();
+        let stand = reading.stand(index, sub)?;
+        let (section, said) = reading.said_at(stand.position)?;
         let text = match stand.highest {
             None => said.value(section)?,
-            Some(_highest) => self.listed_value(index, sub)?,
+            Some(_highest) => reading.listed_value(index, sub)?,
         };
         unless_empty(text)
     }

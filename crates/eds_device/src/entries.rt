@@ -111,7 +111,7 @@ impl DataSheet {
             b'0',
             b'0' + kind as u8,
         ];
-        match self.text(b"DummyUsage", &key) {
+        match self.reading().text(b"DummyUsage", &key) {
             Some(text) => match read_number(text) {
                 Some(number) => is_not_zero(number),
                 None => false,

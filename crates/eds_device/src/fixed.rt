@@ -6,15 +6,15 @@ ghost use Rattle.co_values.specs.Values.{value};
 ghost use Rattle.eds_entries.specs.Said.{said_in};
 ghost use Rattle.ini_text.specs.Content.{Section as Named};
 ghost use Rattle.eds_entries.specs.Shown.{default_shown, description_shown};
-ghost use Rattle.eds_device.specs.Described.{description_by};
 ghost use Rattle.eds_device.specs.Entries.{default_bytes as bytes_of_default, default_by};
 ghost use Rattle.eds_device.specs.Fixed.{AreFixed, IsFixed, IsFixedAt};
-ghost use Rattle.eds_device.specs.Table.{AreStands, standing};
+ghost use Rattle.eds_places.specs.Table.{AreStands};
 
+use crate::described::described_by;
 use crate::entries::default_bytes;
-use crate::table::{Stand, stand_at};
 use co_values::read_number;
-use eds_entries::{DefaultText, Described, Said, highest_sub};
+use eds_entries::{DefaultText, Described, Said};
+use eds_places::{Stand, stand_at};
 use ini_text::Section;
 use std::alloc::{AllocError, Global};
 
@@ -100,27 +100,6 @@ fn fixed_of(alloc: Global, described: Option<Described<'_>>) -> Result<Fixed, Al
     }
     let bytes = default_bytes(alloc, described.kind, described.default, 0)?;
     Ok(fixed_bytes(bytes.as_slice()))
-}
-
-/// What is said of an entry that stands there.
-fn described_by<'a>(
-    sections: &'a [Section],
-    said: &'a [Said],
-    stand: Option<Stand>,
-    sub: u8,
-) -> Option<Described<'a>>
-    requires { said.now ≡ map said_in sections.now }
-    ensures { option_map description_shown result ≡ option_map (description_by sub) (standing sections.now stand) }
-{
-    let stand = stand?;
-    let section = sections.get(stand.position)?;
-    let said = said.get(stand.position)?;
-    if sub == 0
-        && let Some(highest) = stand.highest
-    {
-        return Some(highest_sub(highest));
-    }
-    Some(said.described(section))
 }
 
 /// What is known of the defaults of the entries at places, one after the other. Takes time by their

@@ -3,7 +3,7 @@ ghost use Rattle.std.specs.Prelude.{◌≡◌, Some};
 ghost use Rattle.std.specs.List.{slice_get};
 ghost use Rattle.std.specs.Option.{option_copied};
 ghost use Rattle.eds_device.specs.Described.{value_text};
-ghost use Rattle.eds_device.specs.Places.{pairs_of};
+ghost use Rattle.eds_places.specs.Places.{pairs_of};
 
 use crate::data_sheet::DataSheet;
 use eds_entries::unless_empty;
@@ -16,11 +16,12 @@ impl DataSheet {
         requires { slice_get (pairs_of self.now.sections) position ≡ Some (index, sub) }
         ensures { option_copied result ≡ value_text self.now.sections index sub }
     {
-        let stand = self.stand_at(position, index, sub)?;
-        let (section, said) = self.said_at(stand.position)?;
+        let reading = self.reading();
+        let stand = reading.stand_there(position, index, sub)?;
+        let (section, said) = reading.said_at(stand.position)?;
         let text = match stand.highest {
             None => said.value(section)?,
-            Some(_highest) => self.listed_value(index, sub)?,
+            Some(_highest) => reading.listed_value(index, sub)?,
         };
         unless_empty(text)
     }

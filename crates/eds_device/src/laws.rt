@@ -1,40 +1,20 @@
 //! Laws of the entries of a device, each a function whose contract is the law.
-ghost use Rattle.std.specs.Prelude.{◌≡◌, ◌↔◌, ℕ, pos, List, [], ◌∷◌, Some, None, Err, true, false, IsSome};
+ghost use Rattle.std.specs.Prelude.{◌≡◌, ◌↔◌, ℕ, pos, List, [], ◌∷◌, Some, None, Err, true, false};
 ghost use Rattle.std.specs.Bool.{IsFalse};
 ghost use Rattle.std.specs.FinMap as map;
-ghost use Rattle.std.specs.List.{Contains};
-ghost use Rattle.std.specs.List.Sorted.{IsStrictlySortedBy};
 ghost use Rattle.ini_text.specs.Content.{Section, content_of};
 ghost use Rattle.ini_text.specs.Text.{is_out_of_range, has_bad_byte};
 ghost use Rattle.co_values.specs.declared.data_type.DataType.TheVariants.{Unsigned8};
 ghost use Rattle.co_values.specs.Values.{number_in};
 ghost use Rattle.co_dict.specs.declared.access.Access.TheVariants.{ReadOnly};
 ghost use Rattle.co_dict.specs.Shapes.{is_dummy_allowed};
-ghost use Rattle.co_dict.specs.Places.{place_cmp};
 ghost use Rattle.eds_device.specs.Faults.{HasTooMany, device_of};
 ghost use Rattle.eds_device.specs.Entries.{entry_at, default_at, dummy_allowed, shape_of, defaults_of};
 ghost use Rattle.co_dict.specs.Values.{HoldEach};
 ghost use Rattle.eds_device.specs.Described.{kind_at};
 ghost use Rattle.eds_device.specs.Identity.{is_identity_type, identity_number};
-ghost use Rattle.eds_device.specs.Places.{places_given, pairs_of};
-ghost use Rattle.eds_device.specs.Origins.{compact, origin_of};
-ghost use Rattle.eds_device.specs.declared.fault.DeviceFault.TheVariants.{Limit};
-
-/// The entries of a device stand by index and sub-index, each once, and are those that some section
-/// gives.
-#[tactic(auto, using(crate::proofs::PlaceLemmas::pairs_sorted))]
-pub fn entries_are_those_given()
-    ensures sorted { (ss : List Section) → IsStrictlySortedBy place_cmp (pairs_of ss) }
-    ensures given { (ss : List Section) (place : ℕ × ℕ)
-        → Contains (pairs_of ss) place ↔ ((s : Section) × (Contains ss s × Contains (places_given s) place)) }
-{}
-
-/// The entries of a text are those that one of the three rules gives.
-#[tactic(auto, using(crate::proofs::ConverseLemmas::given_by_rules))]
-pub fn entries_are_those_of_the_rules()
-    ensures { (text : List ℕ) (index sub : ℕ) → let ss = (content_of text).sections
-        in Contains (pairs_of ss) (index, sub) ↔ IsSome (origin_of ss index sub) }
-{}
+ghost use Rattle.eds_places.specs.Origins.{compact, origin_of};
+ghost use Rattle.eds_places.specs.declared.fault.DeviceFault.TheVariants.{Limit};
 
 /// A text is refused by `Limit` exactly where it is an INI text and the rules give over 4,096 entries.
 #[tactic(auto, using(crate::proofs::LimitLemmas::limited_by_rules))]

@@ -2,13 +2,13 @@
 ghost use Rattle.std.specs.Prelude.{◌≡◌, IfSome};
 ghost use Rattle.std.specs.Option.{option_map};
 ghost use Rattle.eds_device.specs.Described.{kind_at};
-ghost use Rattle.eds_device.specs.Origins.{origin_of};
-ghost use Rattle.eds_device.specs.Shown.{origin_shown};
+ghost use Rattle.eds_places.specs.Origins.{origin_of};
+ghost use Rattle.eds_places.specs.Shown.{origin_shown};
 
 use crate::data_sheet::DataSheet;
-use crate::origin::Origin;
 use co_values::DataType;
 use eds_entries::highest_sub;
+use eds_places::Origin;
 
 /// An entry as a look-up finds it.
 #[derive(Clone, Copy)]
@@ -32,8 +32,9 @@ impl DataSheet {
         ensures origin { option_map (λ p. origin_shown p.origin) result ≡ origin_of self.now.sections index sub }
         ensures kind { IfSome result (λ p. p.kind ≡ kind_at self.now.sections (index, sub)) }
     {
-        let (position, stand) = self.stand_near(near, index, sub)?;
-        let (section, said) = self.said_at(stand.position)?;
+        let reading = self.reading();
+        let (position, stand) = reading.stand_near(near, index, sub)?;
+        let (section, said) = reading.said_at(stand.position)?;
         let Some(highest) = stand.highest else {
             return Some(Placed {
                 position,

@@ -3,7 +3,7 @@ ghost use Rattle.std.specs.Prelude.{◌≡◌, ◌∷◌, [], ℕ, IfOk, OnOk, S
 ghost use Rattle.std.specs.Option.{option_map_or};
 ghost use Rattle.std.specs.FinMap as map;
 ghost use Rattle.co_dict.specs.Places.{place_cmp};
-ghost use Rattle.eds_device.specs.Places.{pairs_of};
+ghost use Rattle.eds_places.specs.Places.{pairs_of};
 ghost use Rattle.eds_device.specs.Entries.{entry_at, default_at, dummies_of, shape_of, defaults_of};
 
 use crate::data_sheet::DataSheet;

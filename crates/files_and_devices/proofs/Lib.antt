@@ -23,7 +23,6 @@ pub mod InstantWrites
 pub mod FrameLemmas
 pub mod OwnLaws
 pub mod WaitingLemmas
-pub mod TimerLemmas
 pub mod NodeLemmas
 pub mod OwnLemmas
 pub mod StepLemmas

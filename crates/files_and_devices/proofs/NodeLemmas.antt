@@ -12,8 +12,8 @@ use Rattle.std.proofs.lemmas.List.Sums.{fails_before_first}
 use Rattle.image_parts.specs.Asking.{Answer, outcome}
 use Rattle.can_frame.specs.Frames.{BaseFrame}
 use Rattle.can_frame.specs.Identifiers.{error_control_id, sdo_answer_id}
-use Rattle.can_frame.specs.WaitingFrames.{waiting, without_unwanted}
-use Rattle.can_frame.specs.declared.purpose.Purpose.TheVariants.{Heartbeat, Nmt, Sync}
+use Rattle.can_frame.specs.WaitingFrames.{is_unwanted, waiting, without_unwanted}
+use Rattle.can_frame.specs.declared.purpose.Purpose.TheVariants.{Nmt}
 use Rattle.can_frame.specs.declared.unwanted.Unwanted.TheVariants.{SdoOf}
 use Rattle.can_frame.specs.declared.waiting.Waiting.{Waiting}
 use Rattle.image_parts.specs.Contents.{Image}
@@ -22,17 +22,19 @@ use Rattle.node_boot.specs.Boot.{boot_nmt_slave, is_timed_out, sdo_answer, sdo_t
 use Rattle.node_boot.specs.declared.boot_stage.BootStage.TheVariants.{Failed}
 use Rattle.node_boot.specs.declared.boot_step.BootStep.{BootStep}
 use Rattle.nmt_boot.proofs.EventLemmas.{answered_outcome, boots_outcome}
-use Rattle.nmt_boot.specs.Manager.{Manager, after_boot_up, after_frame, after_sdo_frame, after_step, heartbeat_frame}
-use Rattle.nmt_boot.specs.Manager.{is_boot_up}
+use Rattle.nmt_boot.proofs.PeriodicLemmas.{queue_has}
+use Rattle.nmt_boot.specs.Manager.{Manager, after_boot_up, after_frame, after_sdo_frame, after_step, is_boot_up}
+use Rattle.nmt_boot.specs.Periodic.{frame_of, purpose_of, queue_after}
+use Rattle.nmt_boot.specs.declared.periodic.Periodic.{Periodic}
+use Rattle.nmt_boot.specs.declared.periodic_message.PeriodicMessage.{PeriodicMessage}
+use Rattle.nmt_boot.specs.declared.periodic_message.PeriodicMessage.TheVariants.{Heartbeat, Sync}
 use Rattle.nmt_boot.specs.Startup.{nmt_frame}
 use Rattle.manager_nodes.specs.Table.{is_from, no_node, node_after, node_at, place_of}
-use Rattle.nmt_boot.specs.Manager.{sync_frame, time_outs}
 use Rattle.manager_nodes.specs.Table.{queue_after_time_out, queue_after_time_outs, timed_out, with_stage}
-use Rattle.nmt_boot.specs.Manager.{timers, with_command}
+use Rattle.nmt_boot.specs.Manager.{time_outs, timers, with_command}
 use Rattle.manager_nodes.specs.declared.booting.Booting.{Booting}
 use Rattle.files_and_devices.specs.Requests.{IsAlone, LeavesBoot, TakesStep, requests_to}
 use Rattle.can_frame.specs.ErrorControl.{IsBootUp}
-use Rattle.files_and_devices.proofs.TimerLemmas.{timers_have}
 use Rattle.files_and_devices.proofs.WaitingLemmas.{latest_leaves, other_more, other_step, others_dropped, own_dropped, own_step}
 use Rattle.files_and_devices.proofs.WaitingLemmas.{requests-append}
 use Rattle.nmt_boot.proofs.TableLemmas.{sum_is}
@@ -246,25 +248,38 @@ module _ (m : Manager) (i : ℕ) (own : IsAlone m.nodes i) where
           (sym (own.alone k within (sym same))) ∙ timed)) m.waiting;
     }
 
+    no_request : (message : PeriodicMessage) → is_unwanted (SdoOf n) (purpose_of message) ≡ false
+    no_request Heartbeat = refl
+    no_request (Sync last) = refl
+
+    periodic_leave : (number : ℕ) (ps : List Periodic) (ws : List Waiting)
+        → requests_to n (queue_after t number ps ws) ≡ requests_to n ws
+    periodic_leave number ps ws =
+        queue_has t number (λ vs. requests_to n vs ≡ requests_to n ws)
+        (λ message period vs e. latest_leaves n (purpose_of message) (frame_of number t period message)
+        (no_request message) vs ∙ e) ps ws refl
+
+    timed_fails : is_timed_out t (node_at m.nodes i).stage ≡ true → (node_at (timers t m).0.nodes i).stage ≡ Failed
+    unfolding timers
+    timed_fails e = outs_here e
+
+    timed_leaves : is_timed_out t (node_at m.nodes i).stage ≡ false → LeavesBoot i m (timers t m).0
+    unfolding timers
+    timed_leaves e =
+        let left = outs_leave e in
+        let after = (time_outs t m).0 in
+        record {
+          node = left.node;
+          requests = periodic_leave after.number after.periodic after.waiting ∙ left.requests;
+        }
+
     pub timers_go : ((node_at (timers t m).0.nodes i).stage ≡ Failed) ⊎ LeavesBoot i m (timers t m).0
     timers_go = by (is_timed_out t (node_at m.nodes i).stage) refl
       where
         by : (b : Bool) → is_timed_out t (node_at m.nodes i).stage ≡ b
             → ((node_at (timers t m).0.nodes i).stage ≡ Failed) ⊎ LeavesBoot i m (timers t m).0
-        by true e =
-            inl (timers_have t (λ o. (node_at o.nodes i).stage ≡ Failed) (λ o moment h. h) (λ o moment h. h) m
-            (outs_here e))
-        by false e =
-            inr (timers_have t (LeavesBoot i m)
-            (λ o moment h. record {
-              node = h.node;
-              requests = latest_leaves n Heartbeat (heartbeat_frame o.number) refl o.waiting ∙ h.requests;
-            })
-            (λ o moment h. record {
-              node = h.node;
-              requests =
-                  latest_leaves n Sync (sync_frame o.sync_counter o.sync_period t) refl o.waiting ∙ h.requests;
-            }) m (outs_leave e))
+        by true e = inl (timed_fails e)
+        by false e = inr (timed_leaves e)
 
 no_command : (n : ℕ) (c : NmtCommand) (node : ℕ) → requests_to n (waiting Nmt (nmt_frame c node) ∷ []) ≡ []
 unfolding requests_to

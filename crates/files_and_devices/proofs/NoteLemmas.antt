@@ -2,7 +2,6 @@
 use Rattle.std.proofs.Common.{◌≡◌, ℕ, ◌+◌, ◌<◌, Bool, true, false, List, [], ◌∷◌, ◌++◌, Option, Some, None}
 use Rattle.std.proofs.Common.{◌⊎◌, inl, inr, refl, sym, ap, ◌∙◌, subst, arith, length, map}
 use Rattle.std.specs.Prelude.{Contains, if◌then◌else◌}
-use Rattle.files_and_devices.proofs.TimerLemmas as lasting
 use Rattle.std.proofs.lemmas.List.{get_or_default, get_or-map, get_or-set_same, length-map, length-set}
 use Rattle.std.proofs.lemmas.List.Elements.{Contains-append_cases}
 use Rattle.std.proofs.lemmas.List.Quantifiers.{position-Some}
@@ -204,11 +203,10 @@ module _ (node : ℕ) where
     }
 
     timers_have : (m : Manager) → Has node m → Has node (timers t m).0
+    unfolding timers
     timers_have m h =
-        lasting.timers_have t (Has node)
-        (λ o moment h. record { place = h.place; within = h.within; number = h.number; stage = h.stage })
-        (λ o moment h. record { place = h.place; within = h.within; number = h.number; stage = h.stage }) m
-        (outs_have m h)
+        let has = outs_have m h in
+        record { place = has.place; within = has.within; number = has.number; stage = has.stage }
 
     none_times_out : (ns : List Booting) → Contains (map note_of_time_out ns) (configured_note node) → ⊥
     none_times_out [] h = none_in (configured_note node) h

@@ -8,10 +8,9 @@ use Rattle.std.proofs.lemmas.List.Elements.{All-drop, All-nil, All-tail, All-tak
 use Rattle.std.proofs.lemmas.List.Quantifiers.{position-Some}
 use Rattle.image_parts.specs.Asking.{outcome}
 use Rattle.can_frame.specs.Frames.{BaseFrame}
-use Rattle.can_frame.specs.Identifiers.{error_control_id, sdo_answer_id, sync_id}
+use Rattle.can_frame.specs.Identifiers.{error_control_id, sdo_answer_id}
 use Rattle.can_frame.specs.WaitingFrames.{is_same, waiting, with_latest, without_unwanted}
 use Rattle.can_frame.specs.declared.purpose.Purpose.{Purpose}
-use Rattle.can_frame.specs.declared.purpose.Purpose.TheVariants.{Heartbeat, Sync}
 use Rattle.can_frame.specs.declared.unwanted.Unwanted.{Unwanted}
 use Rattle.can_frame.specs.declared.unwanted.Unwanted.TheVariants.{SdoOf}
 use Rattle.can_frame.specs.declared.waiting.Waiting.{Waiting}
@@ -24,16 +23,18 @@ use Rattle.node_boot.specs.declared.boot_step.BootStep.{BootStep}
 use Rattle.node_boot.specs.declared.note_kind.NoteKind.{NoteKind}
 use Rattle.node_boot.specs.declared.note_kind.NoteKind.TheVariants as kind
 use Rattle.nmt_boot.proofs.FrameLemmas.{received_holds}
-use Rattle.nmt_boot.specs.Manager.{Manager, after_frame, after_step, heartbeat_frame, manager_at_power_on}
+use Rattle.nmt_boot.proofs.PeriodicLemmas.{queue_has}
+use Rattle.nmt_boot.specs.Manager.{Manager, after_frame, after_step, manager_at_power_on, time_outs, timers}
+use Rattle.nmt_boot.specs.Periodic.{frame_of, purpose_of, sync_frame}
+use Rattle.nmt_boot.specs.declared.periodic_message.PeriodicMessage.{PeriodicMessage}
+use Rattle.nmt_boot.specs.declared.periodic_message.PeriodicMessage.TheVariants.{Heartbeat, Sync}
 use Rattle.manager_nodes.specs.Table.{is_from}
 use Rattle.manager_nodes.specs.Table.{no_node, node_after, node_at, place_of, queue_after_time_out, queue_after_time_outs}
-use Rattle.nmt_boot.specs.Manager.{sync_frame, time_outs, timers}
 use Rattle.nmt_boot.specs.Startup.{Startup, frames_of_configured, start_frames, start_of, starts_each, starts_network}
 use Rattle.manager_nodes.specs.Table.{sdo_frames, timed_out, unseen_node}
 use Rattle.nmt_boot.specs.Manager.{with_command}
 use Rattle.manager_nodes.specs.Table.{with_stage}
 use Rattle.manager_nodes.specs.declared.booting.Booting.{Booting}
-use Rattle.files_and_devices.proofs.TimerLemmas.{timers_have}
 use Rattle.files_and_devices.specs.Requests.{HasOwnFrames, IsManagersFrame, StaysManager, numbers_of}
 use Rattle.cia301.specs.Limits.{IsNodeNumber}
 
@@ -200,9 +201,11 @@ frame_owns image t frame m h =
 -- ---- the timers
 
 module _ (t : ℕ) where
-  sync_is : (counter period : ℕ) → (sync_frame counter period t).id ≡ sync_id
-  unfolding sync_frame
-  sync_is counter period = refl
+  periodic_is : (number period : ℕ) (message : PeriodicMessage)
+      → IsManagersFrame number (purpose_of message) (frame_of number t period message)
+  unfolding frame_of sync_frame
+  periodic_is number period Heartbeat = refl
+  periodic_is number period (Sync last) = refl
 
   outs_stay : (m : Manager) → StaysManager m (time_outs t m).0
   unfolding time_outs
@@ -216,21 +219,22 @@ module _ (t : ℕ) where
   }
 
   pub timers_stay : (m : Manager) → StaysManager m (timers t m).0
-  timers_stay m =
-      timers_have t (λ o. StaysManager m o) (λ o moment h. record { number = h.number; numbers = h.numbers })
-      (λ o moment h. record { number = h.number; numbers = h.numbers }) m (outs_stay m)
+  unfolding timers
+  timers_stay m = let stays = outs_stay m in record { number = stays.number; numbers = stays.numbers }
 
   pub timers_own : (m : Manager) → HasOwnFrames m → HasOwnFrames (timers t m).0
+  unfolding timers
   timers_own m h =
-      timers_have t HasOwnFrames
-      (λ o moment own. record {
-        frames = latest_owns o.number Heartbeat (heartbeat_frame o.number) refl o.waiting own.frames;
+      let own = outs_have m h in
+      let after = (time_outs t m).0 in
+      record {
+        frames =
+            queue_has t after.number (λ ws. All (IsOwn after.number) ws)
+            (λ message period. latest_owns after.number (purpose_of message)
+            (frame_of after.number t period message) (periodic_is after.number period message)) after.periodic
+            after.waiting own.frames;
         nodes = own.nodes;
-      })
-      (λ o moment own. record {
-        frames = latest_owns o.number Sync (sync_frame o.sync_counter o.sync_period t) (sync_is o.sync_counter o.sync_period) o.waiting own.frames;
-        nodes = own.nodes;
-      }) m (outs_have m h)
+      }
 
 -- ---- at power-on
 

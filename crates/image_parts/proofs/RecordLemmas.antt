@@ -3,7 +3,7 @@ use Rattle.std.proofs.Common.{◌≡◌, ℕ, List, [], ◌++◌, append_assoc, 
 use Rattle.std.proofs.lemmas.List.{append-nil}
 use Rattle.image_parts.proofs.QuestionLemmas.{reads_bind}
 use Rattle.image_parts.specs.Asking.{Asking, Answer, Seen, after_reads, bind, outcome, reads}
-use Rattle.image_parts.specs.Record.{BeginsWith, IsAsked, Lasts}
+use Rattle.image_parts.specs.Record.{BeginsWith, GoesBy, IsAsked, Lasts}
 
 -- a list begins with itself
 pub itself : {X : Type 0} (list : List X) → BeginsWith list list
@@ -30,6 +30,11 @@ lasts_in_turn h k = record { kept = k.kept ∙ h.kept; begins = in_turn h.begins
 pub asked_none : {N V A : Type 0} (m : Asking N V A) (a : A) (s : Seen N V) (asks : ℕ) → m ≡ Answer a
     → IsAsked m s s asks asks
 asked_none m a s asks e = rw e (record { noted = rw append-nil refl; counted = omega arith })
+
+-- and what stood before is left
+pub goes_none : {N V A X : Type 0} (m : Asking N V A) (a : A) (seen : X → Seen N V) (asks : X → ℕ) (x : X)
+    → m ≡ Answer a → GoesBy m a seen asks x x
+goes_none m a seen asks x e = record { state = rw e refl; asked = asked_none m a (seen x) (asks x) e }
 
 -- the last stage asks for nothing
 pub asked_last : {N V A B : Type 0} (m : Asking N V A) (f : A → B) (a b : Seen N V) (x y : ℕ) → IsAsked m a b x y

@@ -31,8 +31,8 @@ use Rattle.concise_dcf.specs.declared.write.Write.{Write}
 use Rattle.eds_device.specs.Entries.{entry_at}
 use Rattle.eds_device.specs.Faults.{most_entries, device_of}
 use Rattle.eds_device.specs.Places.{pairs_of}
-use Rattle.eds_device.specs.declared.fault.DeviceFault.{DeviceFault}
-use Rattle.eds_device.specs.declared.fault.DeviceFault.TheVariants.{Range, Limit, BadByte}
+use Rattle.eds_places.specs.declared.fault.DeviceFault.{DeviceFault}
+use Rattle.eds_places.specs.declared.fault.DeviceFault.TheVariants.{Range, Limit, BadByte}
 use Rattle.byteorder.specs.Endian.{little_bytes}
 use Rattle.ini_text.specs.Content.{Content, Section, content_of}
 use Rattle.ini_text.specs.Text.{is_out_of_range, has_bad_byte}

@@ -1,21 +1,22 @@
--- Heartbeats and SYNC come at the whole multiples of their periods.
+-- What the manager sends periodically comes at the whole multiples of its period.
 use Rattle.std.proofs.Common.{◌≡◌, ◌↔◌, ℕ, zero, suc, ◌+◌, ◌*◌, ◌<◌, ◌≤◌, Bool, true, false, Option, Some, None, ◌⊎◌}
-use Rattle.std.proofs.Common.{inl, inr, refl, ap, subst, arith}
-use Rattle.std.specs.Prelude.{if◌then◌else◌, ◌==◌}
+use Rattle.std.proofs.Common.{List, [], ◌∷◌, length, map, inl, inr, refl, sym, ap, ◌∙◌, subst, arith}
+use Rattle.std.specs.Prelude.{Contains, filter, slice_index_or, if◌then◌else◌, ◌==◌}
+use Rattle.std.specs.List.{AllZip}
 use Rattle.std.proofs.Math.Nat.{mul-le-mul_right}
 use Rattle.std.proofs.lemmas.Bool.Decides.{nat_tests}
 use Rattle.image_parts.specs.Asking.{outcome}
 use Rattle.can_frame.specs.Frames.{BaseFrame}
-use Rattle.can_frame.specs.WaitingFrames.{with_latest}
-use Rattle.can_frame.specs.declared.purpose.Purpose.TheVariants.{Heartbeat, Sync}
 use Rattle.image_parts.specs.Contents.{Image}
 use Rattle.base.specs.Moments.{is_due, moment_after}
 use Rattle.image_parts.specs.declared.roster.Roster.{Roster}
 use Rattle.co_scenario.specs.declared.nmt_command.NmtCommand.{NmtCommand}
 use Rattle.nmt_boot.proofs.FrameLemmas.{received_holds}
-use Rattle.nmt_boot.specs.Beats.{IsFirstMultiple, IsMultiple, IsNextOf, IsOnTime}
-use Rattle.nmt_boot.specs.Manager.{Manager, with_command, heartbeat_frame, heartbeats, manager_at_power_on, after_frame}
-use Rattle.nmt_boot.specs.Manager.{sync_frame, syncs, time_outs, timers}
+use Rattle.nmt_boot.specs.Beats.{IsFirstMultiple, IsMultiple, IsNextOf, IsOnTime, IsTimed, due_messages}
+use Rattle.nmt_boot.specs.Manager.{Manager, with_command, manager_at_power_on, after_frame, time_outs, timers}
+use Rattle.nmt_boot.specs.Periodic.{first_of as set_first, messages, period_of, periodic_after}
+use Rattle.nmt_boot.specs.declared.periodic.Periodic.{Periodic}
+use Rattle.nmt_boot.specs.declared.periodic_message.PeriodicMessage.{PeriodicMessage}
 
 -- one number is below another, or not
 apart : (j k : ℕ) → (j ≤ k) ⊎ (suc k ≤ j)
@@ -57,10 +58,6 @@ first_by (suc p) false e = first_of p
 
 first_at : (p : ℕ) → IsNextOf 0 p (moment_after 0 p)
 first_at p = first_by p (p == 0) refl
-
-pub on_time_first : (roster : Roster) → IsOnTime 0 (manager_at_power_on roster)
-unfolding manager_at_power_on
-on_time_first roster = record { heartbeat = first_at (1000 * roster.heartbeat_ms); sync = first_at roster.sync_us }
 
 -- the next after one that came
 next_at : (t p : ℕ) → IsMultiple t (suc p) → IsFirstMultiple (t + 1) (suc p) (t + suc p)
@@ -106,65 +103,6 @@ goes_by t (suc p) false e m = next_at t p m
 goes_on : (t period : ℕ) → IsFirstMultiple t period t → IsNextOf (t + 1) period (moment_after t period)
 goes_on t period h = goes_by t period (period == 0) refl h.multiple
 
--- the heartbeat has come, and SYNC has not
-record IsBetween (t : ℕ) (m : Manager) : Type 0 where
-  heartbeat : IsNextOf (t + 1) m.period m.heartbeat
-  sync : IsNextOf t m.sync_period m.sync
-
-beats_by : (t : ℕ) (m : Manager) (b : Bool) → is_due t m.heartbeat ≡ b → IsOnTime t m
-    → IsBetween t (if b
-    then record m {
-      heartbeat = moment_after t m.period;
-      waiting = with_latest Heartbeat (heartbeat_frame m.number) m.waiting;
-    } else m)
-beats_by t m true e h = record {
-  heartbeat =
-      goes_on t m.period (subst (IsNextOf t m.period) (is_the_moment t m.heartbeat e) h.heartbeat);
-  sync = h.sync;
-}
-beats_by t m false e h = record { heartbeat = stays_next t m.period m.heartbeat e h.heartbeat; sync = h.sync }
-
-beats_between : (t : ℕ) (m : Manager) → IsOnTime t m → IsBetween t (heartbeats t m)
-unfolding heartbeats
-beats_between t m h = beats_by t m (is_due t m.heartbeat) refl h
-
-syncs_by : (t : ℕ) (m : Manager) (b : Bool) → is_due t m.sync ≡ b → IsBetween t m
-    → IsOnTime (t + 1)
-    (if b then record m {
-      sync = moment_after t m.sync_period;
-      waiting = with_latest Sync (sync_frame m.sync_counter m.sync_period t) m.waiting;
-    } else m)
-syncs_by t m true e h = record {
-  heartbeat = h.heartbeat;
-  sync = goes_on t m.sync_period (subst (IsNextOf t m.sync_period) (is_the_moment t m.sync e) h.sync);
-}
-syncs_by t m false e h = record { heartbeat = h.heartbeat; sync = stays_next t m.sync_period m.sync e h.sync }
-
-syncs_on_time : (t : ℕ) (m : Manager) → IsBetween t m → IsOnTime (t + 1) (syncs t m)
-unfolding syncs
-syncs_on_time t m h = syncs_by t m (is_due t m.sync) refl h
-
-time_outs_on_time : (t : ℕ) (m : Manager) → IsOnTime t m → IsOnTime t (time_outs t m).0
-unfolding time_outs
-time_outs_on_time t m h = record { heartbeat = h.heartbeat; sync = h.sync }
-
-pub timers_on_time : (t : ℕ) (m : Manager) → IsOnTime t m → IsOnTime (t + 1) (timers t m).0
-unfolding timers
-timers_on_time t m h = syncs_on_time t (heartbeats t (time_outs t m).0)
-    (beats_between t (time_outs t m).0 (time_outs_on_time t m h))
-
-pub command_on_time : (t : ℕ) (command : NmtCommand) (node : ℕ) (m : Manager) → IsOnTime t m
-    → IsOnTime t (with_command command node m)
-command_on_time t command node m h = record { heartbeat = h.heartbeat; sync = h.sync }
-
-pub frame_on_time : (image : Image) (t : ℕ) (frame : BaseFrame) (m : Manager) → IsOnTime t m
-    → IsOnTime t (outcome (after_frame t frame m) image).0
-frame_on_time image t frame m h =
-    received_holds image t frame m (λ r read. IsOnTime t r.0) h (λ i e. record {
-      heartbeat = h.heartbeat;
-      sync = h.sync;
-    }) (λ i e. record { heartbeat = h.heartbeat; sync = h.sync })
-
 itself_at : (t : ℕ) → is_due t (Some t) ≡ true
 itself_at t = grind (arith, nat_tests)
 
@@ -181,8 +119,115 @@ due_next t period next h = (
   at_multiple t period next h,
 )
 
-pub beat_at_multiples : (t : ℕ) (m : Manager) → IsOnTime t m → (is_due t m.heartbeat ≡ true) ↔ IsMultiple t m.period
-beat_at_multiples t m h = due_next t m.period m.heartbeat h.heartbeat
+-- ---- the manager
 
-pub sync_at_multiples : (t : ℕ) (m : Manager) → IsOnTime t m → (is_due t m.sync ≡ true) ↔ IsMultiple t m.sync_period
-sync_at_multiples t m h = due_next t m.sync_period m.sync h.sync
+module _ (network : Roster) where
+  all_first : (ms : List PeriodicMessage) → AllZip (IsTimed network 0) ms (map (set_first network) ms)
+  all_first [] = tt
+  all_first (m ∷ ms) = (record { message = refl; period = refl; next = first_at (period_of network m) }, all_first ms)
+
+  pub on_time_first : IsOnTime network 0 (manager_at_power_on network)
+  unfolding manager_at_power_on
+  on_time_first = all_first (messages network.sync_counter)
+
+  one_after : (t : ℕ) (m : PeriodicMessage) (p : Periodic) → IsTimed network t m p
+      → IsTimed network (t + 1) m (periodic_after t p)
+  one_after t m p h = by (is_due t p.next) refl
+    where
+      by : (b : Bool) → is_due t p.next ≡ b
+          → IsTimed network (t + 1) m (if b then record p { next = moment_after t p.period } else p)
+      by true e = record {
+        message = h.message;
+        period = h.period;
+        next = goes_on t p.period (subst (IsNextOf t p.period) (is_the_moment t p.next e) h.next);
+      }
+      by false e = record {
+        message = h.message;
+        period = h.period;
+        next = stays_next t p.period p.next e h.next;
+      }
+
+  all_after : (t : ℕ) (ms : List PeriodicMessage) (ps : List Periodic) → AllZip (IsTimed network t) ms ps
+      → AllZip (IsTimed network (t + 1)) ms (map (periodic_after t) ps)
+  all_after t [] [] h = tt
+  all_after t [] (p ∷ ps) h = absurd h
+  all_after t (m ∷ ms) [] h = absurd h
+  all_after t (m ∷ ms) (p ∷ ps) h = (one_after t m p h.0, all_after t ms ps h.1)
+
+  pub timers_on_time : (t : ℕ) (m : Manager) → IsOnTime network t m → IsOnTime network (t + 1) (timers t m).0
+  unfolding timers time_outs
+  timers_on_time t m h = all_after t (messages network.sync_counter) m.periodic h
+
+  pub command_on_time : (t : ℕ) (command : NmtCommand) (node : ℕ) (m : Manager) → IsOnTime network t m
+      → IsOnTime network t (with_command command node m)
+  command_on_time t command node m h = h
+
+  pub frame_on_time : (image : Image) (t : ℕ) (frame : BaseFrame) (m : Manager) → IsOnTime network t m
+      → IsOnTime network t (outcome (after_frame t frame m) image).0
+  frame_on_time image t frame m h =
+      received_holds image t frame m (λ r read. IsOnTime network t r.0) h (λ i e. h) (λ i e. h)
+
+-- ---- what is due
+
+module _ (network : Roster) (t : ℕ) where
+  pub due_at : (m : PeriodicMessage) (p : Periodic) → IsTimed network t m p
+      → (is_due t p.next ≡ true) ↔ IsMultiple t (period_of network m)
+  due_at m p h =
+      subst (λ (period : ℕ). (is_due t p.next ≡ true) ↔ IsMultiple t period) h.period
+      (due_next t p.period p.next h.next)
+
+  -- the first is due, or not, and then the others
+  abbrev DueOf : Bool → Periodic → List Periodic → List PeriodicMessage
+  DueOf b p ps = map (λ (q : Periodic). q.message)
+      (if b then p ∷ filter (λ (q : Periodic). is_due t q.next) ps else filter (λ (q : Periodic). is_due t q.next) ps)
+
+  module _ (message : PeriodicMessage) where
+    abbrev Comes : Type 0
+    Comes = IsMultiple t (period_of network message)
+
+    one_comes : (m : PeriodicMessage) (p : Periodic) → IsTimed network t m p → is_due t p.next ≡ true
+        → p.message ≡ message → Comes
+    one_comes m p h e is =
+        subst (λ (x : PeriodicMessage). IsMultiple t (period_of network x)) (sym h.message ∙ is) ((due_at m p h).0 e)
+
+    due_comes : (ms : List PeriodicMessage) (ps : List Periodic) → AllZip (IsTimed network t) ms ps
+        → (k : ℕ) → k < length (due_messages t ps) → slice_index_or (due_messages t ps) k message ≡ message → Comes
+    due_comes [] [] h k within is = absurd (omega (arith, within))
+    due_comes [] (p ∷ ps) h k within is = absurd h
+    due_comes (m ∷ ms) [] h k within is = absurd h
+    due_comes (m ∷ ms) (p ∷ ps) h k within is =
+        by (λ j among e. due_comes ms ps h.1 j among e) (is_due t p.next) refl k within is
+      where
+        by : ((j : ℕ) → j < length (due_messages t ps) → slice_index_or (due_messages t ps) j message ≡ message → Comes)
+            → (b : Bool) → is_due t p.next ≡ b → (k : ℕ) → k < length (DueOf b p ps)
+            → slice_index_or (DueOf b p ps) k message ≡ message → Comes
+        by rest true e zero within is = one_comes m p h.0 e is
+        by rest true e (suc k) within is = rest k (omega (arith, within)) is
+        by rest false e k within is = rest k within is
+
+    comes_due : (ms : List PeriodicMessage) (ps : List Periodic) → AllZip (IsTimed network t) ms ps
+        → (k : ℕ) → k < length ms → slice_index_or ms k message ≡ message → Comes
+        → Contains (due_messages t ps) message
+    comes_due [] ps h k within is at = absurd (omega (arith, within))
+    comes_due (m ∷ ms) [] h k within is at = absurd h
+    comes_due (m ∷ ms) (p ∷ ps) h zero within is at =
+        by (is_due t p.next)
+        ((due_at m p h.0).1 (subst (λ (x : PeriodicMessage). IsMultiple t (period_of network x)) (sym is) at))
+      where
+        by : (b : Bool) → b ≡ true → Contains (DueOf b p ps) message
+        by true e = (0, omega arith, h.0.message ∙ is)
+        by false e = cc
+    comes_due (m ∷ ms) (p ∷ ps) h (suc k) within is at =
+        by (is_due t p.next) (comes_due ms ps h.1 k (omega (arith, within)) is at)
+      where
+        by : (b : Bool) → Contains (due_messages t ps) message → Contains (DueOf b p ps) message
+        by true rest = (suc rest.0, omega (arith, rest.1), rest.2)
+        by false rest = rest
+
+  pub due_at_multiples : (m : Manager) (message : PeriodicMessage) → IsOnTime network t m
+      → Contains (messages network.sync_counter) message
+      → Contains (due_messages t m.periodic) message ↔ IsMultiple t (period_of network message)
+  due_at_multiples m message h one = (
+    λ due. due_comes message (messages network.sync_counter) m.periodic h due.0 due.1 due.2,
+    comes_due message (messages network.sync_counter) m.periodic h one.0 one.1 one.2,
+  )

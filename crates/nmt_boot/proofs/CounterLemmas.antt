@@ -1,19 +1,26 @@
--- SYNC's counter counts from 1 to its last number, and then from 1 again.
+-- What is due periodically waits then; SYNC's counter counts from 1 to its last number, and then from 1 again.
 use Rattle.std.proofs.Common.{◌≡◌, ℕ, zero, suc, ◌+◌, ◌-◌, ◌*◌, ◌/◌, ◌%◌, ◌<◌, ◌≤◌, Bool, true, false, List, [], ◌∷◌}
-use Rattle.std.proofs.Common.{refl, ap, ◌∙◌, subst, arith}
-use Rattle.std.specs.Prelude.{◌==◌, Contains, if◌then◌else◌}
+use Rattle.std.proofs.Common.{length, refl, ap, ◌∙◌, subst, arith}
+use Rattle.std.specs.Prelude.{◌==◌, Contains, slice_index_or, if◌then◌else◌}
+use Rattle.std.specs.List.{AllByRecursion, AllZip}
 use Rattle.std.proofs.Math.Nat.{mod-eq_of_lt, mod-lt, mod_self, suc-mod, mul-div_cancel}
 use Rattle.std.proofs.lemmas.Bool.Decides.{nat_tests}
-use Rattle.base.specs.Moments.{is_due, moment_after}
+use Rattle.base.specs.Moments.{is_due}
 use Rattle.can_frame.specs.Frames.{BaseFrame}
 use Rattle.can_frame.specs.WaitingFrames.{is_same, waiting, with_latest}
 use Rattle.can_frame.specs.declared.purpose.Purpose.{Purpose}
-use Rattle.can_frame.specs.declared.purpose.Purpose.TheVariants.{Heartbeat, Sync}
+use Rattle.can_frame.specs.declared.purpose.Purpose.TheVariants as purpose
 use Rattle.can_frame.specs.declared.waiting.Waiting.{Waiting}
-use Rattle.nmt_boot.proofs.BeatLemmas.{sync_at_multiples}
-use Rattle.nmt_boot.specs.Beats.{IsMultiple, IsOnTime}
+use Rattle.image_parts.specs.declared.roster.Roster.{Roster}
+use Rattle.nmt_boot.proofs.BeatLemmas.{due_at}
+use Rattle.nmt_boot.specs.Beats.{IsMultiple, IsOnTime, IsTimed}
 use Rattle.nmt_boot.specs.Counter.{IsCounting, sync_with}
-use Rattle.nmt_boot.specs.Manager.{Manager, heartbeat_frame, heartbeats, sync_frame, sync_number, syncs, time_outs, timers}
+use Rattle.nmt_boot.specs.Manager.{Manager, time_outs, timers}
+use Rattle.nmt_boot.specs.Periodic.{frame_of, messages, period_of, purpose_of, queue_after, queue_after_one, sync_frame}
+use Rattle.nmt_boot.specs.Periodic.{sync_number}
+use Rattle.nmt_boot.specs.declared.periodic.Periodic.{Periodic}
+use Rattle.nmt_boot.specs.declared.periodic_message.PeriodicMessage.{PeriodicMessage}
+use Rattle.nmt_boot.specs.declared.periodic_message.PeriodicMessage.TheVariants.{Sync}
 
 -- ---- the numbers
 
@@ -50,7 +57,7 @@ counting last above = record {
   within = λ k. stays_below last (k - 1) above;
 }
 
--- ---- the SYNC that waits
+-- ---- what waits
 
 in_more : (ws : List Waiting) (v w : Waiting) → Contains ws w → Contains (v ∷ ws) w
 in_more ws v w h = (suc h.0, omega (arith, h.1), h.2)
@@ -65,61 +72,100 @@ latest_in purpose frame (w ∷ ws) = by (is_same w.purpose purpose) (latest_in p
     by true rest = (0, omega arith, refl)
     by false rest = in_more (with_latest purpose frame ws) w (waiting purpose frame) rest
 
--- SYNC is as it was
-record HasSyncOf (m n : Manager) : Type 0 where
-  sync : n.sync ≡ m.sync
-  period : n.sync_period ≡ m.sync_period
-  counter : n.sync_counter ≡ m.sync_counter
-
-beats_leave : (t : ℕ) (m : Manager) → HasSyncOf m (heartbeats t m)
-unfolding heartbeats
-beats_leave t m = by (is_due t m.heartbeat)
+-- another keeps its place
+keeps : (purpose : Purpose) (frame : BaseFrame) (w : Waiting) → is_same w.purpose purpose ≡ false → (ws : List Waiting)
+    → (k : ℕ) → k < length ws → slice_index_or ws k w ≡ w → Contains (with_latest purpose frame ws) w
+keeps purpose frame w other [] k within is = absurd (omega (arith, within))
+keeps purpose frame w other (v ∷ ws) zero within is =
+    by (is_same v.purpose purpose) (ap (λ (x : Waiting). is_same x.purpose purpose) is ∙ other)
   where
-    by : (b : Bool) → HasSyncOf m (if b
-        then record m {
-          heartbeat = moment_after t m.period;
-          waiting = with_latest Heartbeat (heartbeat_frame m.number) m.waiting;
-        } else m)
-    by true = record { sync = refl; period = refl; counter = refl }
-    by false = record { sync = refl; period = refl; counter = refl }
-
-before_sync : (t : ℕ) (m : Manager) → HasSyncOf m (heartbeats t (time_outs t m).0)
-unfolding time_outs
-before_sync t m =
-    let after = beats_leave t (time_outs t m).0 in
-    record { sync = after.sync; period = after.period; counter = after.counter }
-
-sync_waits : (t : ℕ) (m : Manager) → is_due t m.sync ≡ true
-    → Contains (syncs t m).waiting (waiting Sync (sync_frame m.sync_counter m.sync_period t))
-unfolding syncs
-sync_waits t m e = by (is_due t m.sync) e
+    by : (b : Bool) → b ≡ false
+        → Contains (if b then waiting purpose frame ∷ ws else v ∷ with_latest purpose frame ws) w
+    by true e = cc
+    by false e = (0, omega arith, is)
+keeps purpose frame w other (v ∷ ws) (suc k) within is =
+    by (is_same v.purpose purpose) (keeps purpose frame w other ws k (omega (arith, within)) is)
   where
-    by : (b : Bool) → b ≡ true
-        → Contains (if b
-        then record m {
-          sync = moment_after t m.sync_period;
-          waiting = with_latest Sync (sync_frame m.sync_counter m.sync_period t) m.waiting;
-        } else m).waiting (waiting Sync (sync_frame m.sync_counter m.sync_period t))
-    by true f = latest_in Sync (sync_frame m.sync_counter m.sync_period t) m.waiting
-    by false f = cc
+    by : (b : Bool) → Contains (with_latest purpose frame ws) w
+        → Contains (if b then waiting purpose frame ∷ ws else v ∷ with_latest purpose frame ws) w
+    by true rest = (suc k, omega (arith, within), is)
+    by false rest = in_more (with_latest purpose frame ws) v w rest
 
-module _ (t : ℕ) (m : Manager) (h : IsOnTime t m) (at : IsMultiple t m.sync_period) where
-  waits : Contains (timers t m).0.waiting (waiting Sync (sync_frame m.sync_counter m.sync_period t))
-  unfolding timers
-  waits =
-      let n = heartbeats t (time_outs t m).0 in
-      let same = before_sync t m in
-      let due : is_due t n.sync ≡ true = rw same.sync ((sync_at_multiples t m h).1 at) in
-      subst (λ (c : ℕ). Contains (syncs t n).waiting (waiting Sync (sync_frame c m.sync_period t))) same.counter
-      (subst (λ (p : ℕ). Contains (syncs t n).waiting (waiting Sync (sync_frame n.sync_counter p t))) same.period
-      (sync_waits t n due))
+-- messages have a purpose of their own
+abbrev HasOwn : Purpose → List PeriodicMessage → Type 0
+HasOwn purpose ms = AllByRecursion (λ (m : PeriodicMessage). is_same purpose (purpose_of m) ≡ false) ms
 
-  no_bytes : m.sync_counter ≡ 0 → sync_frame m.sync_counter m.sync_period t ≡ (sync_with []).frame
-  unfolding sync_frame
-  no_bytes e = rw e refl
+abbrev AreApart : List PeriodicMessage → Type 0
+AreApart [] = Unit {0}
+AreApart (m ∷ ms) = HasOwn (purpose_of m) ms × AreApart ms
 
-  pub without_counter : m.sync_counter ≡ 0 → Contains (timers t m).0.waiting (sync_with [])
-  without_counter e = subst (λ (f : BaseFrame). Contains (timers t m).0.waiting (waiting Sync f)) (no_bytes e) waits
+all_apart : (last : ℕ) → AreApart (messages last)
+all_apart last = ((refl, tt), (tt, tt))
+
+module _ (network : Roster) (t number : ℕ) where
+  others_keep : (w : Waiting) (ms : List PeriodicMessage) (ps : List Periodic) → AllZip (IsTimed network t) ms ps
+      → HasOwn w.purpose ms → (ws : List Waiting) → Contains ws w → Contains (queue_after t number ps ws) w
+  others_keep w [] [] h own ws c = c
+  others_keep w [] (p ∷ ps) h own ws c = absurd h
+  others_keep w (m ∷ ms) [] h own ws c = absurd h
+  others_keep w (m ∷ ms) (p ∷ ps) h own ws c =
+      others_keep w ms ps h.1 own.1 (queue_after_one t number p ws) (by (is_due t p.next))
+    where
+      by : (b : Bool)
+          → Contains (if b
+          then with_latest (purpose_of p.message) (frame_of number t p.period p.message) ws else ws) w
+      by true = keeps (purpose_of p.message) (frame_of number t p.period p.message) w
+          (ap (λ (x : PeriodicMessage). is_same w.purpose (purpose_of x)) h.0.message ∙ own.0) ws c.0 c.1 c.2
+      by false = c
+
+  module _ (message : PeriodicMessage) (at : IsMultiple t (period_of network message)) where
+    abbrev its_frame : Waiting
+    its_frame = waiting (purpose_of message) (frame_of number t (period_of network message) message)
+
+    one_waits : (p : Periodic) → IsTimed network t message p → (ws : List Waiting)
+        → Contains (queue_after_one t number p ws) its_frame
+    one_waits p h ws =
+        let due : is_due t p.next ≡ true = (due_at network t message p h).1 at in
+        rw (due, h.period, h.message)
+        (latest_in (purpose_of message) (frame_of number t (period_of network message) message) ws)
+
+    waits : (ms : List PeriodicMessage) (ps : List Periodic) → AllZip (IsTimed network t) ms ps → AreApart ms
+        → (i : ℕ) → i < length ms → slice_index_or ms i message ≡ message → (ws : List Waiting)
+        → Contains (queue_after t number ps ws) its_frame
+    waits [] ps h apart i within is ws = absurd (omega (arith, within))
+    waits (m ∷ ms) [] h apart i within is ws = absurd h
+    waits (m ∷ ms) (p ∷ ps) h apart zero within is ws =
+        others_keep its_frame ms ps h.1
+        (subst (λ (x : PeriodicMessage). HasOwn (purpose_of x) ms) is apart.0) (queue_after_one t number p ws)
+        (one_waits p (subst (λ (x : PeriodicMessage). IsTimed network t x p) is h.0) ws)
+    waits (m ∷ ms) (p ∷ ps) h apart (suc i) within is ws =
+        waits ms ps h.1 apart.1 i (omega (arith, within)) is (queue_after_one t number p ws)
+
+pub queued : (network : Roster) (t : ℕ) (m : Manager) (message : PeriodicMessage) → IsOnTime network t m
+    → Contains (messages network.sync_counter) message → IsMultiple t (period_of network message)
+    → Contains (timers t m).0.waiting
+    (waiting (purpose_of message) (frame_of m.number t (period_of network message) message))
+unfolding timers time_outs
+queued network t m message h one at =
+    waits network t m.number message at (messages network.sync_counter) m.periodic h
+    (all_apart network.sync_counter) one.0 one.1 one.2 _
+
+-- ---- SYNC
+
+sync_waits : (network : Roster) (t : ℕ) (m : Manager) → IsOnTime network t m → IsMultiple t network.sync_us
+    → Contains (timers t m).0.waiting (waiting purpose.Sync (sync_frame network.sync_counter (t / network.sync_us)))
+unfolding frame_of
+sync_waits network t m h at = queued network t m (Sync network.sync_counter) h (1, omega arith, refl) at
+
+without_number : (last k : ℕ) → last ≡ 0 → sync_frame last k ≡ (sync_with []).frame
+unfolding sync_frame
+without_number last k e = rw e refl
+
+pub without_counter : (network : Roster) (t : ℕ) (m : Manager) → IsOnTime network t m → IsMultiple t network.sync_us
+    → network.sync_counter ≡ 0 → Contains (timers t m).0.waiting (sync_with [])
+without_counter network t m h at e =
+    subst (λ (f : BaseFrame). Contains (timers t m).0.waiting (waiting purpose.Sync f))
+    (without_number network.sync_counter (t / network.sync_us) e) (sync_waits network t m h at)
 
 above_zero : (t k p : ℕ) → 1 ≤ t → t ≡ k * p → 1 ≤ p
 above_zero t k zero from e = absurd (omega (arith, from, e))
@@ -132,13 +178,14 @@ how_many t k p from e =
 not_zero : (n : ℕ) → 1 ≤ n → (n == 0) ≡ false
 not_zero n h = grind (arith, nat_tests)
 
-numbered_frame : (counter p t k : ℕ) → 1 ≤ counter → 1 ≤ t → t ≡ k * p
-    → sync_frame counter p t ≡ (sync_with (sync_number counter k ∷ [])).frame
+with_number : (last p t k : ℕ) → 1 ≤ last → 1 ≤ t → t ≡ k * p
+    → sync_frame last (t / p) ≡ (sync_with (sync_number last k ∷ [])).frame
 unfolding sync_frame
-numbered_frame counter p t k above from e = rw (not_zero counter above, how_many t k p from e) refl
+with_number last p t k above from e = rw (not_zero last above, how_many t k p from e) refl
 
-pub numbered : (t k : ℕ) (m : Manager) → IsOnTime t m → 1 ≤ m.sync_counter → 1 ≤ t → t ≡ k * m.sync_period
-    → Contains (timers t m).0.waiting (sync_with (sync_number m.sync_counter k ∷ []))
-numbered t k m h above from e =
-    subst (λ (f : BaseFrame). Contains (timers t m).0.waiting (waiting Sync f))
-    (numbered_frame m.sync_counter m.sync_period t k above from e) (waits t m h (from, (k, e)))
+pub numbered : (network : Roster) (t k : ℕ) (m : Manager) → IsOnTime network t m → 1 ≤ network.sync_counter → 1 ≤ t
+    → t ≡ k * network.sync_us
+    → Contains (timers t m).0.waiting (sync_with (sync_number network.sync_counter k ∷ []))
+numbered network t k m h above from e =
+    subst (λ (f : BaseFrame). Contains (timers t m).0.waiting (waiting purpose.Sync f))
+    (with_number network.sync_counter network.sync_us t k above from e) (sync_waits network t m h (from, (k, e)))

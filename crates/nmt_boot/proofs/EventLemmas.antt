@@ -82,11 +82,7 @@ module _ (t i : ℕ) (m : Manager) (image : Image) (sent : Sent) (startup : Star
         spent = m.spent;
         number = m.number;
         timeout = m.timeout;
-        period = m.period;
-        heartbeat = m.heartbeat;
-        sync_period = m.sync_period;
-        sync_counter = m.sync_counter;
-        sync = m.sync;
+        periodic = m.periodic;
         startup = startup;
         nodes = nodes;
         waiting = waiting;
@@ -115,11 +111,7 @@ module _ (t : ℕ) (answer : List ℕ) (i : ℕ) (m : Manager) (image : Image) (
         spent = m.spent;
         number = m.number;
         timeout = m.timeout;
-        period = m.period;
-        heartbeat = m.heartbeat;
-        sync_period = m.sync_period;
-        sync_counter = m.sync_counter;
-        sync = m.sync;
+        periodic = m.periodic;
         startup = startup;
         nodes = nodes;
         waiting = waiting;

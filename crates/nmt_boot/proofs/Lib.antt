@@ -1,4 +1,5 @@
 pub mod EventLemmas
+pub mod PeriodicLemmas
 pub mod FrameLemmas
 pub mod MomentLemmas
 pub mod BeatLemmas

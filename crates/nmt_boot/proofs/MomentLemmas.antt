@@ -2,22 +2,23 @@
 use Rattle.std.proofs.Common.{◌≡◌, ℕ, ◌+◌, ◌≤◌, Bool, true, false, List, [], ◌∷◌, ◌++◌, map, Option, Some, None}
 use Rattle.std.proofs.Common.{IfSome, refl, ap, ◌∙◌, arith, zero, suc}
 use Rattle.std.specs.Prelude.{All, if◌then◌else◌, ◌==◌, slice_set}
+use Rattle.std.specs.List.{AllByRecursion}
 use Rattle.std.proofs.lemmas.Bool.Decides.{nat_tests}
 use Rattle.std.proofs.lemmas.List.Elements.{All-append, All-cons, All-head, All-nil, All-tail}
-use Rattle.can_frame.specs.WaitingFrames.{with_latest}
-use Rattle.can_frame.specs.declared.purpose.Purpose.TheVariants.{Heartbeat, Sync}
+use Rattle.can_frame.specs.declared.waiting.Waiting.{Waiting}
 use Rattle.co_scenario.specs.declared.nmt_command.NmtCommand.{NmtCommand}
 use Rattle.base.specs.Moments.{is_due, moment_after, moments_of, earlier, earliest}
+use Rattle.base.proofs.EarliestLemmas.{earliest_append}
 use Rattle.manager_nodes.proofs.QuietLemmas.{AreFrom, quiet_list, quiet_nodes}
 use Rattle.nmt_boot.specs.Ahead.{IsAhead}
 use Rattle.node_boot.specs.Boot.{deadline_of, is_at, is_timed_out, sdo_time_out}
-use Rattle.nmt_boot.specs.Manager.{Manager, with_command, heartbeat_frame, heartbeats, moments, sync_frame, syncs}
-use Rattle.nmt_boot.specs.Manager.{time_outs, timers, next_due, after_frame}
+use Rattle.nmt_boot.specs.Manager.{Manager, with_command, moments, send_due, time_outs, timers, next_due, after_frame}
+use Rattle.nmt_boot.specs.Periodic.{next_moments, periodic_after, queue_after}
+use Rattle.nmt_boot.specs.declared.periodic.Periodic.{Periodic}
 use Rattle.manager_nodes.specs.Table.{deadlines, node_after, node_at}
 use Rattle.node_boot.specs.declared.boot_stage.BootStage.{BootStage}
 use Rattle.manager_nodes.specs.declared.booting.Booting.{Booting}
 use Rattle.node_boot.specs.declared.note.Note.{Note}
-use Rattle.manager_nodes.proofs.EarliestLemmas.{first_then}
 use Rattle.image_parts.specs.Asking.{outcome}
 use Rattle.can_frame.specs.Frames.{BaseFrame}
 use Rattle.image_parts.specs.Contents.{Image}
@@ -26,16 +27,18 @@ use Rattle.nmt_boot.proofs.FrameLemmas.{received_holds}
 
 -- ---- the first moment
 
-pub next_due_is : (m : Manager) → next_due m ≡ earlier m.heartbeat (earlier m.sync (earliest (deadlines m.nodes)))
+pub next_due_is : (m : Manager) → next_due m
+    ≡ earlier (earliest (next_moments m.periodic)) (earliest (deadlines m.nodes))
 unfolding next_due moments
-next_due_is m =
-    first_then m.heartbeat (moments_of m.sync ++ deadlines m.nodes)
-    ∙ ap (earlier m.heartbeat) (first_then m.sync (deadlines m.nodes))
+next_due_is m = earliest_append (next_moments m.periodic) (deadlines m.nodes)
+
+-- none of these comes before t
+abbrev pub AreSetFrom : ℕ → List Periodic → Type 0
+AreSetFrom t ps = AllByRecursion (λ (p : Periodic). IfSome p.next (λ d. t ≤ d)) ps
 
 -- no moment of the manager lies before t
 pub record IsFrom (t : ℕ) (m : Manager) : Type 0 where
-  pub heartbeat : IfSome m.heartbeat (λ d. t ≤ d)
-  pub sync : IfSome m.sync (λ d. t ≤ d)
+  pub periodic : AreSetFrom t m.periodic
   pub nodes : AreFrom t m.nodes
 
 -- ---- the list of moments
@@ -71,24 +74,26 @@ module _ (t : ℕ) where
   from_nodes (n ∷ ns) h = All-append (λ d. t ≤ d) (moments_of (deadline_of n.stage)) (deadlines ns)
       (from_some (deadline_of n.stage) h.0) (from_nodes ns h.1)
 
+  set_from : (ps : List Periodic) → AllFrom (next_moments ps) → AreSetFrom t ps
+  set_from [] h = tt
+  set_from (p ∷ ps) h =
+      let both = splits (moments_of p.next) (next_moments ps) h in (some_from p.next both.0, set_from ps both.1)
+
+  from_set : (ps : List Periodic) → AreSetFrom t ps → AllFrom (next_moments ps)
+  from_set [] h = All-nil (λ d. t ≤ d)
+  from_set (p ∷ ps) h = All-append (λ d. t ≤ d) (moments_of p.next) (next_moments ps) (from_some p.next h.0)
+      (from_set ps h.1)
+
   pub from_ahead : (m : Manager) → IsAhead t m → IsFrom t m
   unfolding moments
   from_ahead m h =
-      let first = splits (moments_of m.heartbeat) (moments_of m.sync ++ deadlines m.nodes) h in
-      let second = splits (moments_of m.sync) (deadlines m.nodes) first.1 in
-      record {
-        heartbeat = some_from m.heartbeat first.0;
-        sync = some_from m.sync second.0;
-        nodes = nodes_from m.nodes second.1;
-      }
+      let both = splits (next_moments m.periodic) (deadlines m.nodes) h in
+      record { periodic = set_from m.periodic both.0; nodes = nodes_from m.nodes both.1 }
 
   pub ahead_from : (m : Manager) → IsFrom t m → IsAhead t m
   unfolding moments
-  ahead_from m h =
-      All-append (λ d. t ≤ d) (moments_of m.heartbeat) (moments_of m.sync ++ deadlines m.nodes)
-      (from_some m.heartbeat h.heartbeat)
-      (All-append (λ d. t ≤ d) (moments_of m.sync) (deadlines m.nodes) (from_some m.sync h.sync)
-      (from_nodes m.nodes h.nodes))
+  ahead_from m h = All-append (λ d. t ≤ d) (next_moments m.periodic) (deadlines m.nodes)
+      (from_set m.periodic h.periodic) (from_nodes m.nodes h.nodes)
 
 -- ---- nothing happens before the first moment
 
@@ -100,21 +105,24 @@ quiet_time_outs : (t : ℕ) (m : Manager) → AreFrom (t + 1) m.nodes → time_o
 unfolding time_outs
 quiet_time_outs t m from = rw (quiet_nodes t m.nodes from, quiet_list t m.nodes from) refl
 
-quiet_beats : (t : ℕ) (m : Manager) → IfSome m.heartbeat (λ d. t + 1 ≤ d) → heartbeats t m ≡ m
-unfolding heartbeats
-quiet_beats t m h = rw (not_due t m.heartbeat h) refl
+quiet_periodic : (t : ℕ) (ps : List Periodic) → AreSetFrom (t + 1) ps → map (periodic_after t) ps ≡ ps
+quiet_periodic t [] h = refl
+quiet_periodic t (p ∷ ps) h = rw (not_due t p.next h.0, quiet_periodic t ps h.1) refl
 
-quiet_syncs : (t : ℕ) (m : Manager) → IfSome m.sync (λ d. t + 1 ≤ d) → syncs t m ≡ m
-unfolding syncs
-quiet_syncs t m h = rw (not_due t m.sync h) refl
+quiet_queue : (t number : ℕ) (ps : List Periodic) → AreSetFrom (t + 1) ps → (ws : List Waiting)
+    → queue_after t number ps ws ≡ ws
+quiet_queue t number [] h ws = refl
+quiet_queue t number (p ∷ ps) h ws = rw (not_due t p.next h.0) (quiet_queue t number ps h.1 ws)
+
+quiet_sending : (t : ℕ) (m : Manager) → AreSetFrom (t + 1) m.periodic → send_due t m ≡ m
+quiet_sending t m h = rw (quiet_periodic t m.periodic h, quiet_queue t m.number m.periodic h m.waiting) refl
 
 pub quiet : (t : ℕ) (m : Manager) → IsAhead (t + 1) m → timers t m ≡ (m, [])
 unfolding timers
 quiet t m h =
     let from = from_ahead (t + 1) m h in
-    ap (λ (r : Manager × List Note). (syncs t (heartbeats t r.0), r.1)) (quiet_time_outs t m from.nodes)
-    ∙ ap (λ (n : Manager). (syncs t n, [])) (quiet_beats t m from.heartbeat)
-    ∙ ap (λ (n : Manager). (n, [])) (quiet_syncs t m from.sync)
+    ap (λ (r : Manager × List Note). (send_due t r.0, r.1)) (quiet_time_outs t m from.nodes)
+    ∙ ap (λ (n : Manager). (n, [])) (quiet_sending t m from.periodic)
 
 -- ---- timers leave no moment up to theirs
 
@@ -154,49 +162,24 @@ period_by t period false e = let h = above_zero period e in omega (arith, h)
 period_later : (t period : ℕ) → IfSome (moment_after t period) (λ d. t + 1 ≤ d)
 period_later t period = period_by t period (period == 0) refl
 
--- time-outs and heartbeat have run, and SYNC has not
-record IsBetween (t : ℕ) (m : Manager) : Type 0 where
-  heartbeat : IfSome m.heartbeat (λ d. t + 1 ≤ d)
-  sync : IfSome m.sync (λ d. t ≤ d)
-  nodes : AreFrom (t + 1) m.nodes
+one_later : (t : ℕ) (p : Periodic) → IfSome p.next (λ d. t ≤ d) → IfSome (periodic_after t p).next (λ d. t + 1 ≤ d)
+one_later t p h = by (is_due t p.next) refl
+  where
+    by : (b : Bool) → is_due t p.next ≡ b
+        → IfSome (if b then record p { next = moment_after t p.period } else p).next (λ d. t + 1 ≤ d)
+    by true e = period_later t p.period
+    by false e = stays_later t p.next e h
 
-beats_by : (t : ℕ) (m : Manager) (b : Bool) → is_due t m.heartbeat ≡ b → IfSome m.heartbeat (λ d. t ≤ d)
-    → IfSome m.sync (λ d. t ≤ d) → AreFrom (t + 1) m.nodes
-    → IsBetween t (if b
-    then record m {
-      heartbeat = moment_after t m.period;
-      waiting = with_latest Heartbeat (heartbeat_frame m.number) m.waiting;
-    } else m)
-beats_by t m true e h sync nodes = record { heartbeat = period_later t m.period; sync = sync; nodes = nodes }
-beats_by t m false e h sync nodes = record { heartbeat = stays_later t m.heartbeat e h; sync = sync; nodes = nodes }
-
-beats_later : (t : ℕ) (m : Manager) → IfSome m.heartbeat (λ d. t ≤ d) → IfSome m.sync (λ d. t ≤ d)
-    → AreFrom (t + 1) m.nodes → IsBetween t (heartbeats t m)
-unfolding heartbeats
-beats_later t m h sync nodes = beats_by t m (is_due t m.heartbeat) refl h sync nodes
-
-syncs_by : (t : ℕ) (m : Manager) (b : Bool) → is_due t m.sync ≡ b → IsBetween t m
-    → IsFrom (t + 1)
-    (if b then record m {
-      sync = moment_after t m.sync_period;
-      waiting = with_latest Sync (sync_frame m.sync_counter m.sync_period t) m.waiting;
-    } else m)
-syncs_by t m true e h = record { heartbeat = h.heartbeat; sync = period_later t m.sync_period; nodes = h.nodes }
-syncs_by t m false e h = record { heartbeat = h.heartbeat; sync = stays_later t m.sync e h.sync; nodes = h.nodes }
-
-syncs_later : (t : ℕ) (m : Manager) → IsBetween t m → IsFrom (t + 1) (syncs t m)
-unfolding syncs
-syncs_later t m h = syncs_by t m (is_due t m.sync) refl h
-
-time_outs_between : (t : ℕ) (m : Manager) → IsFrom t m → IsBetween t (heartbeats t (time_outs t m).0)
-unfolding time_outs
-time_outs_between t m h = beats_later t (time_outs t m).0 h.heartbeat h.sync (nodes_later t m.nodes h.nodes)
+set_later : (t : ℕ) (ps : List Periodic) → AreSetFrom t ps → AreSetFrom (t + 1) (map (periodic_after t) ps)
+set_later t [] h = tt
+set_later t (p ∷ ps) h = (one_later t p h.0, set_later t ps h.1)
 
 pub due_later : (t : ℕ) (m : Manager) → IsAhead t m → IsAhead (t + 1) (timers t m).0
-unfolding timers
+unfolding timers time_outs
 due_later t m h =
-    let between = time_outs_between t m (from_ahead t m h) in
-    ahead_from (t + 1) (timers t m).0 (syncs_later t (heartbeats t (time_outs t m).0) between)
+    let from = from_ahead t m h in
+    ahead_from (t + 1) (timers t m).0
+    (record { periodic = set_later t m.periodic from.periodic; nodes = nodes_later t m.nodes from.nodes })
 
 -- a command sets no moment
 pub command_ahead : (t : ℕ) (command : NmtCommand) (node : ℕ) (m : Manager) → IsAhead t m
@@ -206,11 +189,11 @@ command_ahead t command node m h = h
 
 -- ---- a frame, which sets no due moment before it
 
-set_from : (t i : ℕ) (ns : List Booting) (n : Booting) → AreFrom t ns → IsOpenFrom t n.stage
+stage_from : (t i : ℕ) (ns : List Booting) (n : Booting) → AreFrom t ns → IsOpenFrom t n.stage
     → AreFrom t (slice_set ns i n)
-set_from t i [] n h k = h
-set_from t zero (x ∷ xs) n h k = (k, h.1)
-set_from t (suc i) (x ∷ xs) n h k = (h.0, set_from t i xs n h.1 k)
+stage_from t i [] n h k = h
+stage_from t zero (x ∷ xs) n h k = (k, h.1)
+stage_from t (suc i) (x ∷ xs) n h k = (h.0, stage_from t i xs n h.1 k)
 
 at_from : (t i : ℕ) (ns : List Booting) → AreFrom t ns → IsOpenFrom t (node_at ns i).stage
 at_from t i [] h = tt
@@ -224,15 +207,13 @@ frame_ahead image t frame m h =
     ahead_from t (outcome (after_frame t frame m) image).0
     (received_holds image t frame m (λ r read. IsFrom t r.0) from
     (λ i e. record {
-      heartbeat = from.heartbeat;
-      sync = from.sync;
-      nodes = set_from t i m.nodes _ from.nodes (boot_from image t (t + m.timeout)
+      periodic = from.periodic;
+      nodes = stage_from t i m.nodes _ from.nodes (boot_from image t (t + m.timeout)
           (node_at m.nodes i).number (omega arith));
     })
     (λ i e. record {
-      heartbeat = from.heartbeat;
-      sync = from.sync;
-      nodes = set_from t i m.nodes _ from.nodes (answer_from image t (t + m.timeout)
+      periodic = from.periodic;
+      nodes = stage_from t i m.nodes _ from.nodes (answer_from image t (t + m.timeout)
           (node_at m.nodes i).number (omega arith)
           (node_at m.nodes i).stage frame.bytes (at_from t i m.nodes from.nodes));
     }))

@@ -18,7 +18,6 @@ use Rattle.can_frame.specs.declared.purpose.Purpose.{Purpose}
 use Rattle.can_frame.specs.declared.purpose.Purpose.TheVariants.{BootUp, Heartbeat, Tpdo, Sdo, Emergency, Sync, Nmt}
 use Rattle.can_frame.specs.declared.unwanted.Unwanted.TheVariants.{SdoOf}
 use Rattle.can_frame.specs.declared.waiting.Waiting.{Waiting}
-use Rattle.base.specs.Moments.{is_due, moment_after}
 use Rattle.image_parts.specs.Contents.{Image}
 use Rattle.image_parts.specs.Images.{IsNode, IsRoster}
 use Rattle.image_parts.specs.declared.roster.Roster.{Roster}
@@ -31,8 +30,12 @@ use Rattle.node_boot.specs.declared.boot_step.BootStep.{BootStep}
 use Rattle.node_boot.specs.declared.note_kind.NoteKind.{NoteKind}
 use Rattle.node_boot.specs.declared.note_kind.NoteKind.TheVariants as kind
 use Rattle.nmt_boot.proofs.FrameLemmas.{received_holds}
-use Rattle.nmt_boot.specs.Manager.{Manager, after_frame, after_step, heartbeat_frame, heartbeats, manager_at_power_on}
-use Rattle.nmt_boot.specs.Manager.{sync_frame, syncs, time_outs, timers}
+use Rattle.nmt_boot.specs.Manager.{Manager, after_frame, after_step, manager_at_power_on, time_outs, timers}
+use Rattle.nmt_boot.proofs.PeriodicLemmas.{queue_has}
+use Rattle.nmt_boot.specs.Periodic.{frame_of, purpose_of, queue_after}
+use Rattle.nmt_boot.specs.declared.periodic.Periodic.{Periodic}
+use Rattle.nmt_boot.specs.declared.periodic_message.PeriodicMessage.{PeriodicMessage}
+use Rattle.nmt_boot.specs.declared.periodic_message.PeriodicMessage.TheVariants as periodic
 use Rattle.nmt_boot.specs.Startup.{by_mode, frames_of_configured, start_frames, start_of, starts_each, startup_after}
 use Rattle.nmt_boot.specs.Startup.{nmt_frame, startup_of_configured}
 use Rattle.nmt_boot.specs.Starts.{HasNodeNumbers, KeepsStart, StartsNetwork, is_network_start, network_starts}
@@ -98,23 +101,19 @@ sdo_starts node (Some bytes) = refl
 abbrev IsNoCommand : Purpose → Type 0
 IsNoCommand own = (other : Purpose) (rest : Bool) → is_same other own ≡ true → (is_same other Nmt && rest) ≡ false
 
-heartbeat_is_none : IsNoCommand Heartbeat
-heartbeat_is_none BootUp rest e = refl
-heartbeat_is_none Heartbeat rest e = refl
-heartbeat_is_none (Tpdo number) rest e = refl
-heartbeat_is_none (Sdo other) rest e = refl
-heartbeat_is_none Emergency rest e = refl
-heartbeat_is_none Sync rest e = refl
-heartbeat_is_none Nmt rest e = cc
+is_none : (message : PeriodicMessage) → IsNoCommand (purpose_of message)
+is_none periodic.Heartbeat Nmt rest e = cc
+is_none (periodic.Sync last) Nmt rest e = cc
+is_none message BootUp rest e = refl
+is_none message (Tpdo number) rest e = refl
+is_none message (Sdo other) rest e = refl
+is_none message Emergency rest e = refl
+is_none message Heartbeat rest e = refl
+is_none message Sync rest e = refl
 
-sync_is_none : IsNoCommand Sync
-sync_is_none BootUp rest e = refl
-sync_is_none Heartbeat rest e = refl
-sync_is_none (Tpdo number) rest e = refl
-sync_is_none (Sdo other) rest e = refl
-sync_is_none Emergency rest e = refl
-sync_is_none Sync rest e = refl
-sync_is_none Nmt rest e = cc
+its_own : (message : PeriodicMessage) → is_same (purpose_of message) (purpose_of message) ≡ true
+its_own periodic.Heartbeat = refl
+its_own (periodic.Sync last) = refl
 
 module _ (own : Purpose) (same : is_same own own ≡ true) (none : IsNoCommand own) (frame : BaseFrame) where
   latest_starts : (ws : List Waiting) → network_starts (with_latest own frame ws) ≡ network_starts ws
@@ -139,50 +138,19 @@ time_outs_start (node ∷ nodes) ws =
     ∙ starts_of_both (without_unwanted (SdoOf node.number) ws) (sdo_frames node.number request)
     ∙ rw (sdo_starts node.number request, dropped_starts node.number ws) (omega arith)
 
-time_outs_keep : (t : ℕ) (m : Manager) → KeepsStart m (time_outs t m).0
-unfolding time_outs
-time_outs_keep t m = record { startup = refl; waiting = time_outs_start (timed_out t m.nodes) m.waiting }
-
-beats_keep : (t : ℕ) (m : Manager) → KeepsStart m (heartbeats t m)
-unfolding heartbeats
-beats_keep t m = by (is_due t m.heartbeat)
-  where
-    by : (b : Bool) → KeepsStart m (if b
-        then record m {
-          heartbeat = moment_after t m.period;
-          waiting = with_latest Heartbeat (heartbeat_frame m.number) m.waiting;
-        } else m)
-    by true = record {
-      startup = refl;
-      waiting = latest_starts Heartbeat refl heartbeat_is_none (heartbeat_frame m.number) m.waiting;
-    }
-    by false = record { startup = refl; waiting = refl }
-
-syncs_keep : (t : ℕ) (m : Manager) → KeepsStart m (syncs t m)
-unfolding syncs
-syncs_keep t m = by (is_due t m.sync)
-  where
-    by : (b : Bool) → KeepsStart m (if b
-        then record m {
-          sync = moment_after t m.sync_period;
-          waiting = with_latest Sync (sync_frame m.sync_counter m.sync_period t) m.waiting;
-        } else m)
-    by true = record {
-      startup = refl;
-      waiting = latest_starts Sync refl sync_is_none (sync_frame m.sync_counter m.sync_period t) m.waiting;
-    }
-    by false = record { startup = refl; waiting = refl }
-
-then_keeps : (a b c : Manager) → KeepsStart a b → KeepsStart b c → KeepsStart a c
-then_keeps a b c h k = record { startup = k.startup ∙ h.startup; waiting = k.waiting ∙ h.waiting }
+periodic_start : (t number : ℕ) (ps : List Periodic) (ws : List Waiting)
+    → network_starts (queue_after t number ps ws) ≡ network_starts ws
+periodic_start t number ps ws =
+    queue_has t number (λ vs. network_starts vs ≡ network_starts ws)
+    (λ message period vs e. latest_starts (purpose_of message) (its_own message) (is_none message)
+    (frame_of number t period message) vs ∙ e) ps ws refl
 
 pub timers_keep : (t : ℕ) (m : Manager) → KeepsStart m (timers t m).0
-unfolding timers
-timers_keep t m =
-    let first = (time_outs t m).0 in
-    then_keeps m (heartbeats t first) (syncs t (heartbeats t first))
-    (then_keeps m first (heartbeats t first) (time_outs_keep t m) (beats_keep t first))
-    (syncs_keep t (heartbeats t first))
+unfolding timers time_outs
+timers_keep t m = record {
+  startup = refl;
+  waiting = periodic_start t m.number m.periodic _ ∙ time_outs_start (timed_out t m.nodes) m.waiting;
+}
 
 -- ---- nodes have numbers above 0
 
@@ -224,34 +192,9 @@ pub numbers_of_frame : (image : Image) (t : ℕ) (frame : BaseFrame) (m : Manage
 numbers_of_frame image t frame m h = received_holds image t frame m (λ r read. HasNodeNumbers r.0) h
     (λ i e. stage_above m.nodes i _ h) (λ i e. stage_above m.nodes i _ h)
 
-beats_nodes : (t : ℕ) (m : Manager) → (heartbeats t m).nodes ≡ m.nodes
-unfolding heartbeats
-beats_nodes t m = by (is_due t m.heartbeat)
-  where
-    by : (b : Bool) → (if b
-        then record m {
-          heartbeat = moment_after t m.period;
-          waiting = with_latest Heartbeat (heartbeat_frame m.number) m.waiting;
-        } else m).nodes ≡ m.nodes
-    by true = refl
-    by false = refl
-
-syncs_nodes : (t : ℕ) (m : Manager) → (syncs t m).nodes ≡ m.nodes
-unfolding syncs
-syncs_nodes t m = by (is_due t m.sync)
-  where
-    by : (b : Bool) → (if b
-        then record m {
-          sync = moment_after t m.sync_period;
-          waiting = with_latest Sync (sync_frame m.sync_counter m.sync_period t) m.waiting;
-        } else m).nodes ≡ m.nodes
-    by true = refl
-    by false = refl
-
 pub numbers_of_timers : (t : ℕ) (m : Manager) → HasNodeNumbers m → HasNodeNumbers (timers t m).0
 unfolding timers time_outs
-numbers_of_timers t m h = rw (syncs_nodes t (heartbeats t (time_outs t m).0), beats_nodes t (time_outs t m).0)
-    (later_above t m.nodes h)
+numbers_of_timers t m h = later_above t m.nodes h
 
 -- ---- a step of a boot
 

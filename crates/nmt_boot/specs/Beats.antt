@@ -1,6 +1,12 @@
--- When heartbeats and SYNC come.
-use Rattle.std.specs.Prelude.{◌≡◌, ℕ, ◌*◌, ◌≤◌, Option, Some, None}
+-- When what the manager sends periodically comes.
+use Rattle.std.specs.Prelude.{◌≡◌, ℕ, ◌*◌, ◌≤◌, List, Option, Some, None, filter, map}
+use Rattle.std.specs.List.{AllZip}
+use Rattle.base.specs.Moments.{is_due}
+use Rattle.image_parts.specs.declared.roster.Roster.{Roster}
 use Rattle.nmt_boot.specs.Manager.{Manager}
+use Rattle.nmt_boot.specs.Periodic.{messages, period_of}
+use Rattle.nmt_boot.specs.declared.periodic.Periodic.{Periodic}
+use Rattle.nmt_boot.specs.declared.periodic_message.PeriodicMessage.{PeriodicMessage}
 
 -- a whole multiple of a period, above 0
 abbrev pub IsMultiple : ℕ → ℕ → Type 0
@@ -17,7 +23,16 @@ abbrev pub IsNextOf : ℕ → ℕ → Option ℕ → Type 0
 IsNextOf t period None = period ≡ 0
 IsNextOf t period (Some moment) = IsFirstMultiple t period moment
 
--- heartbeat and SYNC are due next at the first multiple from the moment t on; there is none without a period
-pub record IsOnTime (t : ℕ) (m : Manager) : Type 0 where
-  pub heartbeat : IsNextOf t m.period m.heartbeat
-  pub sync : IsNextOf t m.sync_period m.sync
+-- this message of a network, with its period: it is due next at the first multiple from the moment t on
+pub record IsTimed (network : Roster) (t : ℕ) (which : PeriodicMessage) (p : Periodic) : Type 0 where
+  pub message : p.message ≡ which
+  pub period : p.period ≡ period_of network which
+  pub next : IsNextOf t p.period p.next
+
+-- THE MANAGER IS ON TIME: it has each periodic message of its network, in their order, with its next moment
+abbrev pub IsOnTime : Roster → ℕ → Manager → Type 0
+IsOnTime network t m = AllZip (IsTimed network t) (messages network.sync_counter) m.periodic
+
+-- those that are due at a moment
+abbrev pub due_messages : ℕ → List Periodic → List PeriodicMessage
+due_messages t ps = map (λ p. p.message) (filter (λ p. is_due t p.next) ps)

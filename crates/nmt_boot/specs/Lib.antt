@@ -1,3 +1,4 @@
+pub mod Periodic
 pub mod Manager
 pub mod Startup
 pub mod Mandatory
@@ -6,4 +7,4 @@ pub mod Beats
 pub mod Ends
 pub mod Counter
 pub mod Starts
-pub mod GoesBy
+pub mod TellsBy

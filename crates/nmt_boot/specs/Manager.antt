@@ -1,16 +1,16 @@
--- The NMT manager (CiA 302): the boots of its nodes, when it starts them, its own heartbeat, its SYNC (CiA 301), and the
--- frames that it has waiting. All nodes boot side by side.
-use Rattle.std.specs.Prelude.{ℕ, ◌+◌, ◌-◌, ◌*◌, ◌/◌, ◌%◌, ◌==◌, Bool, false, List, [], ◌∷◌, ◌++◌, length, map}
+-- The NMT manager (CiA 302): the boots of its nodes, when it starts them, what it sends periodically, and the frames
+-- that it has waiting. All nodes boot side by side.
+use Rattle.std.specs.Prelude.{ℕ, ◌+◌, ◌*◌, ◌==◌, Bool, false, List, [], ◌∷◌, ◌++◌, length, map}
 use Rattle.std.specs.Prelude.{slice_index_or, Option, Some, None, if◌then◌else◌}
 use Rattle.image_parts.specs.Asking.{Asking, Answer, bind}
 use Rattle.can_frame.specs.Frames.{BaseFrame}
-use Rattle.can_frame.specs.Identifiers.{error_control_id, sdo_answer_id, sync_id}
-use Rattle.can_frame.specs.WaitingFrames.{with_latest, waiting, without_unwanted}
-use Rattle.can_frame.specs.declared.purpose.Purpose.TheVariants.{BootUp, Heartbeat, Nmt, Sync}
+use Rattle.can_frame.specs.Identifiers.{error_control_id, sdo_answer_id}
+use Rattle.can_frame.specs.WaitingFrames.{waiting, without_unwanted}
+use Rattle.can_frame.specs.declared.purpose.Purpose.TheVariants.{BootUp, Nmt}
 use Rattle.can_frame.specs.declared.unwanted.Unwanted.TheVariants.{SdoOf}
 use Rattle.can_frame.specs.declared.waiting.Waiting.{Waiting}
 use Rattle.image_parts.specs.Contents.{Content}
-use Rattle.base.specs.Moments.{earliest, is_due, moment_after, moments_of}
+use Rattle.base.specs.Moments.{earliest}
 use Rattle.image_parts.specs.declared.part.Part.{Part}
 use Rattle.image_parts.specs.declared.roster.Roster.{Roster}
 use Rattle.co_scenario.specs.declared.nmt_command.NmtCommand.{NmtCommand}
@@ -20,23 +20,18 @@ use Rattle.node_boot.specs.declared.boot_step.BootStep.{BootStep}
 use Rattle.manager_nodes.specs.Table.{unseen_node, node_at, place_of, with_stage, note_of_loss, notes_of, sdo_frames}
 use Rattle.manager_nodes.specs.Table.{deadlines, node_after, note_of_time_out, queue_after_time_outs, timed_out}
 use Rattle.manager_nodes.specs.declared.booting.Booting.{Booting}
+use Rattle.nmt_boot.specs.Periodic.{first_of, messages, next_moments, periodic_after, queue_after, silent}
+use Rattle.nmt_boot.specs.declared.periodic.Periodic.{Periodic}
 use Rattle.nmt_boot.specs.Startup.{Startup, no_startup, startup_of, nmt_frame, start_frames, startup_after}
-use Rattle.can_frame.specs.ErrorControl.{boot_up_message, error_control_frame}
-use Rattle.cia301.specs.NmtStates.{state_byte}
-use Rattle.cia301.specs.declared.nmt_state.NmtState.TheVariants.{Operational}
+use Rattle.can_frame.specs.ErrorControl.{boot_up_message}
 
--- its number, the time-out and the periods of heartbeat and SYNC in microseconds (0 for none), the last number that
--- SYNC's counter has (0 for no counter), the next heartbeat and the next SYNC, when it starts nodes, the nodes by number
--- with their boots, and the waiting frames
+-- its number, the time-out in microseconds, what it sends periodically, when it starts nodes, the nodes by number with
+-- their boots, and the waiting frames
 pub record Manager : Type 0 where
   pub spent : Bool
   pub number : ℕ
   pub timeout : ℕ
-  pub period : ℕ
-  pub heartbeat : Option ℕ
-  pub sync_period : ℕ
-  pub sync_counter : ℕ
-  pub sync : Option ℕ
+  pub periodic : List Periodic
   pub startup : Startup
   pub nodes : List Booting
   pub waiting : List Waiting
@@ -48,28 +43,20 @@ blank = record {
   spent = false;
   number = 0;
   timeout = 0;
-  period = 0;
-  heartbeat = None;
-  sync_period = 0;
-  sync_counter = 0;
-  sync = None;
+  periodic = map silent (messages 0);
   startup = no_startup;
   nodes = [];
   waiting = [];
 }
 
--- at time 0 no node was seen, nothing is started, and the manager's own boot-up waits; heartbeats and SYNC come at the
--- whole multiples of their periods above 0
+-- at time 0 no node was seen, nothing is started, and the manager's own boot-up waits; what is periodic comes at the
+-- whole multiples of its period above 0
 unfoldable pub manager_at_power_on : Roster → Manager
 manager_at_power_on roster = record {
   spent = false;
   number = roster.manager;
   timeout = 1000 * roster.timeout_ms;
-  period = 1000 * roster.heartbeat_ms;
-  heartbeat = moment_after 0 (1000 * roster.heartbeat_ms);
-  sync_period = roster.sync_us;
-  sync_counter = roster.sync_counter;
-  sync = moment_after 0 roster.sync_us;
+  periodic = map (first_of roster) (messages roster.sync_counter);
   startup = startup_of roster;
   nodes = map unseen_node roster.nodes;
   waiting = waiting BootUp (boot_up_message roster.manager) ∷ [];
@@ -132,7 +119,7 @@ after_frame t frame m =
     else if length frame.bytes == 8 then after_sdo_frame t frame.bytes (place_of (sdo_answer_id 0) frame.id m.nodes) m
     else Answer (m, [])
 
--- ---- timers: time-outs by node, the heartbeat, and then SYNC
+-- ---- timers: time-outs by node, and then what is periodic
 
 unfoldable pub time_outs : ℕ → Manager → Manager × List Note
 time_outs t m = (
@@ -143,48 +130,20 @@ time_outs t m = (
   map note_of_time_out (timed_out t m.nodes),
 )
 
--- a heartbeat of state Operational takes the place of one that still waits
-abbrev pub heartbeat_frame : ℕ → BaseFrame
-heartbeat_frame number = error_control_frame number (state_byte Operational)
-
-unfoldable pub heartbeats : ℕ → Manager → Manager
-heartbeats t m =
-    if is_due t m.heartbeat
-    then record m {
-      heartbeat = moment_after t m.period;
-      waiting = with_latest Heartbeat (heartbeat_frame m.number) m.waiting;
-    }
-    else m
-
--- the number that the k-th SYNC of a run carries: they count from 1 to the last number, and then from 1 again
-abbrev pub sync_number : ℕ → ℕ → ℕ
-sync_number last k = (k - 1) % last + 1
-
--- the SYNC of the moment t carries its number, where the counter has a last one, and else no byte
-unfoldable pub sync_frame : ℕ → ℕ → ℕ → BaseFrame
-sync_frame counter period t = record {
-  id = sync_id;
-  bytes = if counter == 0 then [] else sync_number counter (t / period) ∷ [];
+abbrev pub send_due : ℕ → Manager → Manager
+send_due t m = record m {
+  periodic = map (periodic_after t) m.periodic;
+  waiting = queue_after t m.number m.periodic m.waiting;
 }
 
--- a SYNC takes the place of one that still waits
-unfoldable pub syncs : ℕ → Manager → Manager
-syncs t m =
-    if is_due t m.sync
-    then record m {
-      sync = moment_after t m.sync_period;
-      waiting = with_latest Sync (sync_frame m.sync_counter m.sync_period t) m.waiting;
-    }
-    else m
-
 unfoldable pub timers : ℕ → Manager → Manager × List Note
-timers t m = (syncs t (heartbeats t (time_outs t m).0), (time_outs t m).1)
+timers t m = (send_due t (time_outs t m).0, (time_outs t m).1)
 
 -- ---- the first moment at which the manager is due
 
 -- all moments that are set
 unfoldable pub moments : Manager → List ℕ
-moments m = moments_of m.heartbeat ++ (moments_of m.sync ++ deadlines m.nodes)
+moments m = next_moments m.periodic ++ deadlines m.nodes
 
 unfoldable pub next_due : Manager → Option ℕ
 next_due m = earliest (moments m)

@@ -5,19 +5,21 @@ ghost use Rattle.image_parts.specs.Alike.{AreAlike};
 ghost use Rattle.image_parts.specs.Asking.{Agrees, outcome, reads};
 ghost use Rattle.can_frame.specs.Frames.{BaseFrame};
 ghost use Rattle.can_frame.specs.Identifiers.{error_control_id, sdo_answer_id};
+ghost use Rattle.can_frame.specs.WaitingFrames.{waiting};
 ghost use Rattle.image_parts.specs.Contents.{Image};
 ghost use Rattle.image_parts.specs.Images.{IsRoster};
-ghost use Rattle.base.specs.Moments.{is_due};
 ghost use Rattle.image_parts.specs.declared.roster.Roster.{Roster as Network};
 ghost use Rattle.image_parts.specs.declared.start_mode.StartMode.TheVariants.{EachNode};
 ghost use Rattle.co_scenario.specs.declared.nmt_command.NmtCommand.{NmtCommand};
 ghost use Rattle.nmt_boot.specs.Ahead.{IsAhead};
-ghost use Rattle.nmt_boot.specs.Beats.{IsMultiple, IsOnTime};
+ghost use Rattle.nmt_boot.specs.Beats.{IsMultiple, IsOnTime, due_messages};
 ghost use Rattle.nmt_boot.specs.Counter.{IsCounting, sync_with};
 ghost use Rattle.nmt_boot.specs.Ends.{configured_note, WritesEnd};
 ghost use Rattle.nmt_boot.specs.Manager.{Manager as State, with_command, manager_at_power_on, after_frame};
 ghost use Rattle.manager_nodes.specs.Table.{node_at};
-ghost use Rattle.nmt_boot.specs.Manager.{sync_number, timers};
+ghost use Rattle.nmt_boot.specs.Manager.{timers};
+ghost use Rattle.nmt_boot.specs.Periodic.{frame_of, messages, period_of, purpose_of, sync_number};
+ghost use Rattle.nmt_boot.specs.declared.periodic_message.PeriodicMessage.{PeriodicMessage as Message};
 ghost use Rattle.nmt_boot.specs.Starts.{HasNodeNumbers, KeepsStart, StartsNetwork};
 
 /// Before the first of its moments nothing happens to the manager, and nothing is noted.
@@ -57,19 +59,25 @@ pub fn a_frame_changes_its_node_alone()
         → node_at (outcome (after_frame t frame m) image).0.nodes j ≡ node_at m.nodes j }
 {}
 
-/// Heartbeats come at the whole multiples of their period above 0, and at no other moment, and so does SYNC:
-/// the next one is due at the first of them at power-on, after each frame, after each command, and after the
-/// timers of each moment.
-#[tactic(auto, using(crate::proofs::BeatLemmas::on_time_first, crate::proofs::BeatLemmas::frame_on_time, crate::proofs::BeatLemmas::command_on_time, crate::proofs::BeatLemmas::timers_on_time, crate::proofs::BeatLemmas::beat_at_multiples, crate::proofs::BeatLemmas::sync_at_multiples))]
-pub fn heartbeats_and_sync_come_at_whole_multiples()
-    ensures first { (network : Network) → IsOnTime 0 (manager_at_power_on network) }
-    ensures frames { (image : Image) (t : ℕ) (frame : BaseFrame) (m : State) → IsOnTime t m
-        → IsOnTime t (outcome (after_frame t frame m) image).0 }
-    ensures commands { (t : ℕ) (command : NmtCommand) (node : ℕ) (m : State) → IsOnTime t m
-        → IsOnTime t (with_command command node m) }
-    ensures timers { (t : ℕ) (m : State) → IsOnTime t m → IsOnTime (t + 1) (timers t m).0 }
-    ensures heartbeat { (t : ℕ) (m : State) → IsOnTime t m → (is_due t m.heartbeat ≡ true) ↔ IsMultiple t m.period }
-    ensures sync { (t : ℕ) (m : State) → IsOnTime t m → (is_due t m.sync ≡ true) ↔ IsMultiple t m.sync_period }
+/// What the manager sends periodically, as its heartbeat and SYNC, is due at the whole multiples of its period above 0,
+/// and at no other moment: it is set so at power-on, and after each frame, each command, and the timers of each moment.
+/// Where it is due its frame waits then.
+#[tactic(auto, using(crate::proofs::BeatLemmas::on_time_first, crate::proofs::BeatLemmas::timers_on_time, crate::proofs::CounterLemmas::queued))]
+pub fn periodic_messages_come_at_whole_multiples()
+    ensures first { (network : Network) → IsOnTime network 0 (manager_at_power_on network) }
+    ensures frames { (network : Network) (image : Image) (t : ℕ) (frame : BaseFrame) (m : State)
+        → IsOnTime network t m → IsOnTime network t (outcome (after_frame t frame m) image).0 }
+    ensures commands { (network : Network) (t : ℕ) (command : NmtCommand) (node : ℕ) (m : State)
+        → IsOnTime network t m → IsOnTime network t (with_command command node m) }
+    ensures timers { (network : Network) (t : ℕ) (m : State) → IsOnTime network t m
+        → IsOnTime network (t + 1) (timers t m).0 }
+    ensures due { (network : Network) (t : ℕ) (m : State) (message : Message) → IsOnTime network t m
+        → Contains (messages network.sync_counter) message
+        → Contains (due_messages t m.periodic) message ↔ IsMultiple t (period_of network message) }
+    ensures queued { (network : Network) (t : ℕ) (m : State) (message : Message) → IsOnTime network t m
+        → Contains (messages network.sync_counter) message → IsMultiple t (period_of network message)
+        → Contains (timers t m).0.waiting
+        (waiting (purpose_of message) (frame_of m.number t (period_of network message) message)) }
 {}
 
 /// A node is noted configured only at a frame at which a write of it was asked for and is absent; never by timers.
@@ -85,10 +93,11 @@ pub fn a_boot_ends_with_its_writes()
 #[tactic(auto, using(crate::proofs::CounterLemmas::counting, crate::proofs::CounterLemmas::numbered, crate::proofs::CounterLemmas::without_counter))]
 pub fn sync_messages_are_numbered()
     ensures counts { (last : ℕ) → 1 ≤ last → IsCounting last (sync_number last) }
-    ensures numbered { (t k : ℕ) (m : State) → IsOnTime t m → 1 ≤ m.sync_counter → 1 ≤ t → t ≡ k * m.sync_period
-        → Contains (timers t m).0.waiting (sync_with (sync_number m.sync_counter k ∷ [])) }
-    ensures plain { (t : ℕ) (m : State) → IsOnTime t m → IsMultiple t m.sync_period → m.sync_counter ≡ 0
-        → Contains (timers t m).0.waiting (sync_with []) }
+    ensures numbered { (network : Network) (t k : ℕ) (m : State) → IsOnTime network t m → 1 ≤ network.sync_counter
+        → 1 ≤ t → t ≡ k * network.sync_us
+        → Contains (timers t m).0.waiting (sync_with (sync_number network.sync_counter k ∷ [])) }
+    ensures plain { (network : Network) (t : ℕ) (m : State) → IsOnTime network t m → IsMultiple t network.sync_us
+        → network.sync_counter ≡ 0 → Contains (timers t m).0.waiting (sync_with []) }
 {}
 
 /// A frame leaves the start of the network as it is, or starts the network: as a whole by one command, where that

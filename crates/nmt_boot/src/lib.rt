@@ -3,8 +3,12 @@
 
 pub mod laws;
 mod manager;
+mod periodic;
+mod periodic_message;
 mod startup;
 mod sync;
 mod telling;
 
 pub use manager::Manager;
+pub use periodic::Periodic;
+pub use periodic_message::PeriodicMessage;

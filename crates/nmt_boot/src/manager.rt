@@ -4,13 +4,14 @@ ghost use Rattle.std.specs.Prelude.{◌≡◌, ◌<◌, ◌*◌, ◌^◌, ◌++�
 ghost use Rattle.std.specs.Prelude.{IfSome, OnOk, OnErr, IsErr, IsTrue};
 ghost use Rattle.image_parts.specs.Record.{BeginsWith, Lasts};
 ghost use Rattle.can_frame.specs.Winner.{contenders_of, IsWinner};
-ghost use Rattle.nmt_boot.specs.GoesBy.{GoesBy};
+ghost use Rattle.nmt_boot.specs.TellsBy.{TellsBy};
 ghost use Rattle.nmt_boot.specs.Manager as rules;
 
+use crate::periodic::{self, Periodic};
+use crate::periodic_message::MESSAGES;
 use crate::startup::Startup;
-use crate::sync::sync_frame;
 use crate::telling::{send_command, tell};
-use base::{earlier, is_due, moment_after};
+use base::earlier;
 use can_frame::{Contender, Frame, Pending, Purpose, Unwanted, Waiting, identifiers};
 use co_scenario::NmtCommand;
 use image_parts::{END, Roster};
@@ -19,8 +20,8 @@ use node_boot::{Boots, Notes};
 use std::alloc::{AllocError, Global};
 use std::marker::Model;
 
-/// The NMT manager of a network at a moment (CiA 302): the boots of its nodes, when it starts them, its
-/// heartbeat, its SYNC (CiA 301), and what it has waiting.
+/// The NMT manager of a network at a moment (CiA 302): the boots of its nodes, when it starts them, what it
+/// sends periodically, as its heartbeat and SYNC (CiA 301), and what it has waiting.
 ///
 /// A manager that found no memory in a call is spent: `spent` answers true, and each later call that can
 /// answer `AllocError` does. All moments are microseconds from the power-on of the network.
@@ -30,11 +31,7 @@ pub struct Manager {
     spent: bool,
     number: u8,
     timeout: u64,
-    period: u64,
-    heartbeat: Option<u64>,
-    sync_period: u64,
-    sync_counter: u8,
-    sync: Option<u64>,
+    periodic: [Periodic; MESSAGES],
     startup: Startup,
     nodes: NodeTable,
     waiting: Pending,
@@ -50,17 +47,13 @@ impl Model for Manager {
       spent = m.spent;
       number = m.number;
       timeout = m.timeout;
-      period = m.period;
-      heartbeat = m.heartbeat;
-      sync_period = m.sync_period;
-      sync_counter = m.sync_counter;
-      sync = m.sync;
+      periodic = m.periodic;
       startup = m.startup;
       nodes = m.nodes;
       waiting = m.waiting;
     } };
 
-    ghost invariant = { λ m. (m.timeout < 1000 * 2 ^ 16) × (m.period < 1000 * 2 ^ 16) × (m.sync_period < 2 ^ 32) };
+    ghost invariant = { λ m. m.timeout < 1000 * 2 ^ 16 };
 }
 
 /// Whether these are the bytes of a boot-up message.
@@ -79,21 +72,6 @@ fn microseconds(milliseconds: u16) -> u64
     1000 * u64::from(milliseconds)
 }
 
-/// The time between two SYNC messages of a network, in microseconds.
-fn sync_time(roster: &Roster) -> u64
-    ensures time { result ≡ roster.now.sync_us }
-    ensures short { result < 2 ^ 32 }
-{
-    u64::from(roster.sync_us)
-}
-
-/// The frame of the manager's heartbeat: it is Operational.
-fn heartbeat_frame(number: u8) -> Frame
-    ensures { result ≡ rules.heartbeat_frame number }
-{
-    Frame::of(identifiers::error_control(number), &[5])
-}
-
 impl Manager {
     /// A manager of no network. Takes no memory.
     pub fn new(alloc: Global) -> Manager
@@ -104,11 +82,7 @@ impl Manager {
             spent: false,
             number: 0,
             timeout: 0,
-            period: 0,
-            heartbeat: None,
-            sync_period: 0,
-            sync_counter: 0,
-            sync: None,
+            periodic: periodic::none(),
             startup: Startup::none(),
             nodes: NodeTable::none(),
             waiting: Pending::new(alloc),
@@ -120,8 +94,6 @@ impl Manager {
     pub fn powered_on(alloc: Global, roster: &Roster) -> Result<Manager, AllocError>
         ensures { IfOk result (λ manager. manager ≡ rules.manager_at_power_on roster.now) }
     {
-        let period = microseconds(roster.heartbeat_ms);
-        let sync_period = sync_time(roster);
         let startup = Startup::of(alloc, roster)?;
         let nodes = NodeTable::unseen(alloc, roster.nodes.as_slice())?;
         let mut waiting = Pending::new(alloc);
@@ -132,11 +104,7 @@ impl Manager {
             spent: false,
             number: roster.manager,
             timeout: microseconds(roster.timeout_ms),
-            period,
-            heartbeat: moment_after(0, period),
-            sync_period,
-            sync_counter: roster.sync_counter,
-            sync: moment_after(0, sync_period),
+            periodic: periodic::powered_on(roster),
             startup,
             nodes,
             waiting,
@@ -159,28 +127,11 @@ impl Manager {
             spent: false,
             number: self.number,
             timeout: self.timeout,
-            period: self.period,
-            heartbeat: self.heartbeat,
-            sync_period: self.sync_period,
-            sync_counter: self.sync_counter,
-            sync: self.sync,
+            periodic: self.periodic,
             startup,
             nodes,
             waiting,
         })
-    }
-
-    /// Whether heartbeat and SYNC of two managers are the same, and come at the same moments.
-    fn has_times_of(&self, other: &Manager) -> bool
-        ensures { IsTrue result ↔ ((self.now.period ≡ other.now.period) × (self.now.heartbeat ≡ other.now.heartbeat)
-            × (self.now.sync_period ≡ other.now.sync_period) × (self.now.sync_counter ≡ other.now.sync_counter)
-            × (self.now.sync ≡ other.now.sync)) }
-    {
-        self.period == other.period
-            && self.heartbeat == other.heartbeat
-            && self.sync_period == other.sync_period
-            && self.sync_counter == other.sync_counter
-            && self.sync == other.sync
     }
 
     /// Whether two managers are equal.
@@ -190,20 +141,22 @@ impl Manager {
         self.spent == other.spent
             && self.number == other.number
             && self.timeout == other.timeout
-            && self.has_times_of(other)
+            && periodic::same(&self.periodic, &other.periodic)
             && self.startup.same(&other.startup)
             && self.nodes.same(&other.nodes)
             && self.waiting.same(&other.waiting)
     }
 
-    /// The first moment at which a request times out, or a heartbeat or SYNC is due. Takes constant time; by
+    /// The first moment at which a request times out, or a periodic message is due. Takes constant time; by
     /// the number of nodes where the manager is spent.
     #[tactic(auto, using(crate::proofs::MomentLemmas::next_due_is))]
     pub fn next_due(&self) -> Option<u64>
         ensures { result ≡ rules.next_due self.now }
     {
-        let timed = earlier(self.sync, self.nodes.first_deadline());
-        earlier(self.heartbeat, timed)
+        earlier(
+            periodic::first_due(&self.periodic),
+            self.nodes.first_deadline(),
+        )
     }
 
     /// Whether a call before found no memory.
@@ -245,22 +198,6 @@ impl Manager {
         self.timeout
     }
 
-    /// The period of the heartbeat, in microseconds.
-    fn period(&self) -> u64
-        ensures period { result ≡ self.now.period }
-        ensures short { result < 1000 * 2 ^ 16 }
-    {
-        self.period
-    }
-
-    /// The period of SYNC, in microseconds.
-    fn sync_period(&self) -> u64
-        ensures period { result ≡ self.now.sync_period }
-        ensures short { result < 2 ^ 32 }
-    {
-        self.sync_period
-    }
-
     /// The boot of a node of the table begins anew.
     fn boot_at<P: Boots>(
         &mut self,
@@ -271,7 +208,7 @@ impl Manager {
     ) -> Result<(), AllocError>
         requires soon { t < END }
         requires within { i < length self.now.nodes }
-        ensures ran { OnOk result (GoesBy (rules.after_boot_at t i self.old) self.new
+        ensures ran { OnOk result (TellsBy (rules.after_boot_at t i self.old) self.new
             P.seen P.asks boots.old boots.new notes.old notes.new) }
         ensures notes_before { BeginsWith notes.new notes.old }
         ensures lasts { Lasts (P.seen boots.old) (P.seen boots.new) }
@@ -303,7 +240,7 @@ impl Manager {
     ) -> Result<(), AllocError>
         requires soon { t < END }
         requires within { i < length self.now.nodes }
-        ensures ran { OnOk result (GoesBy (rules.after_answer_at t answer.now i self.old) self.new
+        ensures ran { OnOk result (TellsBy (rules.after_answer_at t answer.now i self.old) self.new
             P.seen P.asks boots.old boots.new notes.old notes.new) }
         ensures notes_before { BeginsWith notes.new notes.old }
         ensures lasts { Lasts (P.seen boots.old) (P.seen boots.new) }
@@ -335,7 +272,7 @@ impl Manager {
     ) -> Result<(), AllocError>
         requires soon { t < END }
         requires within { IfSome place (λ i. i < length self.now.nodes) }
-        ensures ran { OnOk result (GoesBy (rules.after_boot_up t place self.old) self.new
+        ensures ran { OnOk result (TellsBy (rules.after_boot_up t place self.old) self.new
             P.seen P.asks boots.old boots.new notes.old notes.new) }
         ensures notes_before { BeginsWith notes.new notes.old }
         ensures lasts { Lasts (P.seen boots.old) (P.seen boots.new) }
@@ -358,7 +295,7 @@ impl Manager {
     ) -> Result<(), AllocError>
         requires soon { t < END }
         requires within { IfSome place (λ i. i < length self.now.nodes) }
-        ensures ran { OnOk result (GoesBy (rules.after_sdo_frame t answer.now place self.old) self.new
+        ensures ran { OnOk result (TellsBy (rules.after_sdo_frame t answer.now place self.old) self.new
             P.seen P.asks boots.old boots.new notes.old notes.new) }
         ensures notes_before { BeginsWith notes.new notes.old }
         ensures lasts { Lasts (P.seen boots.old) (P.seen boots.new) }
@@ -379,7 +316,7 @@ impl Manager {
         notes: &mut Notes,
     ) -> Result<(), AllocError>
         requires soon { t < END }
-        ensures ran { OnOk result (GoesBy (rules.after_frame t frame.now self.old) self.new
+        ensures ran { OnOk result (TellsBy (rules.after_frame t frame.now self.old) self.new
             P.seen P.asks boots.old boots.new notes.old notes.new) }
         ensures notes_before { BeginsWith notes.new notes.old }
         ensures lasts { Lasts (P.seen boots.old) (P.seen boots.new) }
@@ -409,35 +346,6 @@ impl Manager {
             .time_outs(self.alloc, t, &mut self.waiting, notes)
     }
 
-    /// The heartbeat, where it is due at the moment t.
-    #[tactic(auto, unfolding(crate::specs::Manager::heartbeats))]
-    fn beat(&mut self, t: u64) -> Result<(), AllocError>
-        requires { t < END }
-        ensures { OnOk result (self.new ≡ rules.heartbeats t self.old) }
-    {
-        if !is_due(t, self.heartbeat) {
-            return Ok(());
-        }
-        self.heartbeat = moment_after(t, self.period());
-        let frame = heartbeat_frame(self.number);
-        self.waiting.replace(Purpose::Heartbeat, frame)
-    }
-
-    /// SYNC, where it is due at the moment t.
-    #[tactic(auto, unfolding(crate::specs::Manager::syncs))]
-    fn synchronize(&mut self, t: u64) -> Result<(), AllocError>
-        requires { t < END }
-        ensures { OnOk result (self.new ≡ rules.syncs t self.old) }
-    {
-        if !is_due(t, self.sync) {
-            return Ok(());
-        }
-        let period = self.sync_period();
-        self.sync = moment_after(t, period);
-        let frame = sync_frame(self.sync_counter, period, t);
-        self.waiting.replace(Purpose::Sync, frame)
-    }
-
     /// Runs what is due, where there was memory before.
     #[tactic(auto, unfolding(crate::specs::Manager::timers))]
     fn run_timers(&mut self, t: u64, notes: &mut Notes) -> Result<(), AllocError>
@@ -447,8 +355,7 @@ impl Manager {
         ensures notes_before { BeginsWith notes.new notes.old }
     {
         self.time_out(t, notes)?;
-        self.beat(t)?;
-        self.synchronize(t)
+        periodic::send_due(&mut self.periodic, t, self.number, &mut self.waiting)
     }
 
     /// Takes a frame of a node at the moment t, and notes what that brings about. Takes time by the number
@@ -462,7 +369,7 @@ impl Manager {
         notes: &mut Notes,
     ) -> Result<(), AllocError>
         requires { t < END }
-        ensures ran { OnOk result (GoesBy (rules.after_frame t frame.now self.old) self.new
+        ensures ran { OnOk result (TellsBy (rules.after_frame t frame.now self.old) self.new
             P.seen P.asks boots.old boots.new notes.old notes.new) }
         ensures notes_before { BeginsWith notes.new notes.old }
         ensures lasts { Lasts (P.seen boots.old) (P.seen boots.new) }
@@ -480,7 +387,7 @@ impl Manager {
     }
 
     /// Runs what is due at the moment t, and notes it. Takes time by the number of nodes where a request times
-    /// out, and by the number of frames that wait where a heartbeat or SYNC is due.
+    /// out, and by the number of frames that wait where a periodic message is due.
     pub fn on_instant(&mut self, t: u64, notes: &mut Notes) -> Result<(), AllocError>
         requires { t < END }
         ensures state { OnOk result (self.new ≡ (rules.timers t self.old).0) }

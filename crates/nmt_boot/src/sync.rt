@@ -1,7 +1,7 @@
 //! The SYNC messages of the manager.
 
-ghost use Rattle.std.specs.Prelude.{◌≡◌, ◌/◌, ◌<◌};
-ghost use Rattle.nmt_boot.specs.Manager as rules;
+ghost use Rattle.std.specs.Prelude.{◌≡◌, ◌<◌};
+ghost use Rattle.nmt_boot.specs.Periodic as rules;
 
 use can_frame::{Frame, identifiers};
 
@@ -14,21 +14,14 @@ fn sync_number(last: u8, k: u64) -> u8
     number as u8
 }
 
-/// How many whole periods lie between the power-on and a moment; 0 without a period.
-fn periods_until(t: u64, period: u64) -> u64
-    ensures { result ≡ t / period }
+/// The frame of the k-th SYNC of a run: it carries its number, where the counter has a last one, and else no byte.
+#[tactic(auto, unfolding(crate::specs::Periodic::sync_frame))]
+pub(crate) fn sync_frame(last: u8, k: u64) -> Frame
+    ensures { result ≡ rules.sync_frame last k }
 {
-    if period == 0 { 0 } else { t / period }
-}
-
-/// The frame of the SYNC of a moment: it carries its number, where the counter has a last one, and else no byte.
-#[tactic(auto, unfolding(crate::specs::Manager::sync_frame))]
-pub(crate) fn sync_frame(counter: u8, period: u64, t: u64) -> Frame
-    ensures { result ≡ rules.sync_frame counter period t }
-{
-    if counter == 0 {
+    if last == 0 {
         return Frame::of(identifiers::sync(), &[]);
     }
-    let number = sync_number(counter, periods_until(t, period));
+    let number = sync_number(last, k);
     Frame::of(identifiers::sync(), &[number])
 }

@@ -1,8 +1,7 @@
 //! What an SDO answer of a node does to its boot.
 
 ghost use Rattle.std.specs.Prelude.{◌≡◌, IfOk, OnOk};
-ghost use Rattle.image_parts.specs.Asking.{outcome};
-ghost use Rattle.image_parts.specs.Record.{IsAsked, Lasts};
+ghost use Rattle.image_parts.specs.Record.{GoesBy, Lasts};
 ghost use Rattle.node_boot.specs.Boot as rules;
 ghost use Rattle.node_boot.specs.declared.boot_stage.BootStage.TheVariants.{Comparing, Writing};
 
@@ -28,11 +27,9 @@ fn after_compare<P: Boots>(
     advance: Advance,
     boots: &mut P,
 ) -> Result<BootStep, AllocError>
-    ensures state { IfOk result (λ step. step
-        ≡ outcome (rules.after_compare deadline old node place expected advance.stage advance.progress)
-        (P.seen boots.old).image) }
-    ensures asked { OnOk result (IsAsked (rules.after_compare deadline old node place expected advance.stage
-        advance.progress) (P.seen boots.old) (P.seen boots.new) (P.asks boots.old) (P.asks boots.new)) }
+    ensures ran { IfOk result (λ step. GoesBy
+        (rules.after_compare deadline old node place expected advance.stage advance.progress)
+        step P.seen P.asks boots.old boots.new) }
     ensures lasts { Lasts (P.seen boots.old) (P.seen boots.new) }
 {
     let transfer = advance.stage;
@@ -90,10 +87,8 @@ fn after_write<P: Boots>(
     advance: Advance,
     boots: &mut P,
 ) -> Result<BootStep, AllocError>
-    ensures state { IfOk result (λ step. step
-        ≡ outcome (rules.after_write deadline old node place advance.stage advance.progress) (P.seen boots.old).image) }
-    ensures asked { OnOk result (IsAsked (rules.after_write deadline old node place advance.stage advance.progress)
-        (P.seen boots.old) (P.seen boots.new) (P.asks boots.old) (P.asks boots.new)) }
+    ensures ran { IfOk result (λ step. GoesBy (rules.after_write deadline old node place advance.stage advance.progress)
+        step P.seen P.asks boots.old boots.new) }
     ensures lasts { Lasts (P.seen boots.old) (P.seen boots.new) }
 {
     let transfer = advance.stage;
@@ -124,10 +119,8 @@ pub fn sdo_answer<P: Boots>(
     answer: &[u8; 8],
     boots: &mut P,
 ) -> Result<BootStep, AllocError>
-    ensures state { IfOk result (λ step. step ≡ outcome (rules.sdo_answer deadline node stage answer.now)
-        (P.seen boots.old).image) }
-    ensures asked { OnOk result (IsAsked (rules.sdo_answer deadline node stage answer.now)
-        (P.seen boots.old) (P.seen boots.new) (P.asks boots.old) (P.asks boots.new)) }
+    ensures ran { IfOk result (λ step. GoesBy (rules.sdo_answer deadline node stage answer.now) step
+        P.seen P.asks boots.old boots.new) }
     ensures lasts { Lasts (P.seen boots.old) (P.seen boots.new) }
 {
     match stage {

@@ -1,8 +1,7 @@
 //! The download of a node's configuration (CiA 302): the writes of its concise DCF one by one.
 
 ghost use Rattle.std.specs.Prelude.{◌≡◌, ◌<◌, IfOk, IfSome, OnOk};
-ghost use Rattle.image_parts.specs.Asking.{outcome};
-ghost use Rattle.image_parts.specs.Record.{IsAsked, Lasts};
+ghost use Rattle.image_parts.specs.Record.{GoesBy, Lasts};
 ghost use Rattle.image_parts.specs.Images.{greatest_place};
 ghost use Rattle.concise_dcf.specs.Writes.{IsSized};
 ghost use Rattle.image_parts.specs.Shared.{value_behind};
@@ -53,10 +52,8 @@ pub(crate) fn download_configuration<P: Boots>(
     place: u32,
     boots: &mut P,
 ) -> Result<BootStep, AllocError>
-    ensures state { IfOk result (λ step. step ≡ outcome (rules.download_configuration deadline node place)
-        (P.seen boots.old).image) }
-    ensures asked { OnOk result (IsAsked (rules.download_configuration deadline node place)
-        (P.seen boots.old) (P.seen boots.new) (P.asks boots.old) (P.asks boots.new)) }
+    ensures ran { IfOk result (λ step. GoesBy (rules.download_configuration deadline node place) step
+        P.seen P.asks boots.old boots.new) }
     ensures lasts { Lasts (P.seen boots.old) (P.seen boots.new) }
 {
     let next = boots.boot(node, place)?;

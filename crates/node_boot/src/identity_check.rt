@@ -2,8 +2,7 @@
 
 ghost use Rattle.std.specs.Prelude.{◌≡◌, ◌≤◌, ◌&&◌, length, nat_le, find, IfOk, OnOk, unwrap_or};
 ghost use Rattle.std.specs.Option.{option_copied};
-ghost use Rattle.image_parts.specs.Asking.{outcome};
-ghost use Rattle.image_parts.specs.Record.{IsAsked, Lasts};
+ghost use Rattle.image_parts.specs.Record.{GoesBy, Lasts};
 ghost use Rattle.byteorder.specs.Endian.{little_number};
 ghost use Rattle.image_parts.specs.Contents.{no_identity};
 ghost use Rattle.image_parts.specs.Shared.{value_behind};
@@ -93,10 +92,8 @@ pub(crate) fn check_identity<P: Boots>(
     place: u16,
     boots: &mut P,
 ) -> Result<BootStep, AllocError>
-    ensures state { IfOk result (λ step. step ≡ outcome (rules.check_identity deadline node expected place)
-        (P.seen boots.old).image) }
-    ensures asked { OnOk result (IsAsked (rules.check_identity deadline node expected place)
-        (P.seen boots.old) (P.seen boots.new) (P.asks boots.old) (P.asks boots.new)) }
+    ensures ran { IfOk result (λ step. GoesBy (rules.check_identity deadline node expected place) step
+        P.seen P.asks boots.old boots.new) }
     ensures lasts { Lasts (P.seen boots.old) (P.seen boots.new) }
 {
     match next_compared(&expected, place) {
@@ -125,9 +122,8 @@ pub fn boot_nmt_slave<P: Boots>(
     node: u8,
     boots: &mut P,
 ) -> Result<BootStep, AllocError>
-    ensures state { IfOk result (λ step. step ≡ outcome (rules.boot_nmt_slave deadline node) (P.seen boots.old).image) }
-    ensures asked { OnOk result (IsAsked (rules.boot_nmt_slave deadline node)
-        (P.seen boots.old) (P.seen boots.new) (P.asks boots.old) (P.asks boots.new)) }
+    ensures ran { IfOk result (λ step. GoesBy (rules.boot_nmt_slave deadline node) step
+        P.seen P.asks boots.old boots.new) }
     ensures lasts { Lasts (P.seen boots.old) (P.seen boots.new) }
 {
     let identity = boots.expect(node)?;

@@ -11,7 +11,7 @@ use Rattle.std.proofs.lemmas.List.Kept.{IsStrictlySortedBy-filter}
 use Rattle.ini_text.specs.Content.{Section}
 use Rattle.concise_dcf.specs.declared.write.Write.{Write}
 use Rattle.co_dict.specs.declared.entry.Entry.{Entry}
-use Rattle.eds_device.proofs.PlaceLemmas.{pairs_sorted}
+use Rattle.eds_places.proofs.PlaceLemmas.{pairs_sorted}
 use Rattle.eds_device.specs.Described.{Described, description_of, description_by, unless_empty, value_by, value_text}
 use Rattle.eds_device.specs.Described.{kind_at}
 use Rattle.eds_device.specs.Entries.{entry_by, entry_at}
@@ -26,7 +26,7 @@ use Rattle.node_parameters.specs.Parameters.{given_text, parameter_text, write_t
 use Rattle.concise_dcf.specs.Writes.{place_of}
 use Rattle.node_parameters.specs.Parameters.{parameter_writes}
 use Rattle.node_parameters.proofs.JudgedLemmas.{judged_entry}
-use Rattle.eds_device.proofs.LawLemmas.{rules_give}
+use Rattle.eds_places.proofs.GivenLemmas.{rules_give}
 use Rattle.node_parameters.proofs.SizeLemmas.{value_sized}
 use Rattle.node_parameters.proofs.WrittenLemmas.{Contains-filter_map, from_filter_map, length-filter_map, places_given}
 use Rattle.node_parameters.proofs.WrittenLemmas.{All-filter_map}

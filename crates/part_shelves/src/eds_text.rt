@@ -5,7 +5,8 @@ ghost use Rattle.eds_device.specs.Faults.{device_of};
 ghost use Rattle.ini_text.specs.Content.{content_of};
 
 use base::Octets;
-use eds_device::{DataSheet, DeviceFault};
+use co_project::read_device;
+use eds_device::DataSheet;
 use kept_values::{Kept, Makes, Shared};
 use std::alloc::{AllocError, Global};
 use std::marker::Model;
@@ -61,18 +62,6 @@ impl Makes<Shared<DataSheet>> for EdsText {
     ghost use Rattle.ini_text.specs.Content.{content_of};
 
     ghost made = { content_of };
-}
-
-/// Reads the text of a device.
-fn read_device(alloc: Global, text: &[u8]) -> Result<DataSheet, AllocError>
-    requires { device_of text.now ≡ Ok (content_of text.now) }
-    ensures { IfOk result (λ device. device ≡ content_of text.now) }
-{
-    match DataSheet::read(alloc, text) {
-        Ok(device) => Ok(device),
-        Err(DeviceFault::Memory) => Err(AllocError),
-        Err(_fault) => unreachable!(),
-    }
 }
 
 /// The device of a text, with the text, which both share where most of it is content.

@@ -9,13 +9,14 @@ use Rattle.std.specs.Option.{option_map_or}
 use Rattle.std.specs.Ordering.{nat_cmp}
 use Rattle.std.proofs.lemmas.Bool.Decides.{nat_tests}
 use Rattle.co_dict.specs.declared.direction.Direction.TheVariants.{Transmit}
-use Rattle.pdo_plan.specs.declared.carried.Carried.{Carried}
+use Rattle.pdo_stations.specs.declared.carried.Carried.{Carried}
 use Rattle.pdo_stations.specs.declared.mapped.Mapped.{Mapped}
 use Rattle.pdo_stations.specs.Devices.{Devices, can_map, width_at}
 use Rattle.pdo_plan.specs.Mapping.{Sources, Sinks, bits_of, sent_mapping, taken_mapping, lacks_dummy_at, is_mismatched}
 use Rattle.pdo_plan.specs.Mapping.{differ}
-use Rattle.pdo_plan.specs.Carried.{carried_by, carried_of, bits_in, total_bits, sent_by, taken_by, taken_of_all}
-use Rattle.pdo_plan.specs.Carried.{lacks_some, lacks_dummy_for, mismatches, carried_at}
+use Rattle.pdo_stations.specs.Carried.{carried_by, carried_of, bits_in, total_bits, sent_by, taken_by, taken_of_all}
+use Rattle.pdo_stations.specs.Carried.{lacks_some, lacks_dummy_for, carried_at}
+use Rattle.pdo_plan.specs.Carried.{mismatches}
 
 pub fold_map : {X Y : Type 0} (g : X → Y) (f : ℕ → Y → ℕ) (n : ℕ) (xs : List X)
     → fold f n (map g xs) ≡ fold (λ a x. f a (g x)) n xs

@@ -5,12 +5,13 @@ use Rattle.std.proofs.lemmas.Bool.Decides.{nat_tests}
 use Rattle.std.proofs.lemmas.List.{length-map}
 use Rattle.project_messages.specs.declared.linked.Linked.{Linked}
 use Rattle.project_messages.specs.Messages.{IsLinked}
-use Rattle.pdo_plan.specs.declared.carried.Carried.{Carried}
+use Rattle.pdo_stations.specs.declared.carried.Carried.{Carried}
 use Rattle.pdo_plan.specs.declared.message_fault.MessageFault.{MessageFault}
 use Rattle.pdo_plan.specs.declared.outcome.Outcome.TheVariants.{Planned, Faulty}
 use Rattle.pdo_stations.specs.Devices.{Devices}
 use Rattle.pdo_plan.specs.Mapping.{sent_mapping}
-use Rattle.pdo_plan.specs.Carried.{carried_by, carried_of, sent_by, consumer_by, clean_by}
+use Rattle.pdo_stations.specs.Carried.{carried_by, carried_of, sent_by}
+use Rattle.pdo_plan.specs.Carried.{consumer_by, clean_by}
 use Rattle.pdo_plan.specs.Plan.{Had, rpdo_for, identifier_for, consumer_of, consumers_of, planned_consumers, faults}
 use Rattle.pdo_plan.specs.Plan.{message_outcome, judged_message}
 use Rattle.pdo_plan.proofs.CarriedLemmas.{sent_same, taken_same}

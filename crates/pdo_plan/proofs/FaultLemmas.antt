@@ -4,14 +4,15 @@ use Rattle.std.specs.List.{list_any}
 use Rattle.std.proofs.lemmas.List.{length-map}
 use Rattle.cia301.specs.TransmissionTypes.{is_reserved, type_of_byte}
 use Rattle.project_messages.specs.declared.linked.Linked.{Linked}
-use Rattle.pdo_plan.specs.declared.carried.Carried.{Carried}
+use Rattle.pdo_stations.specs.declared.carried.Carried.{Carried}
 use Rattle.pdo_plan.specs.declared.message_fault.MessageFault.{MessageFault}
 use Rattle.pdo_plan.specs.declared.message_fault.MessageFault.TheVariants.{NoObjects, TpdoTaken, TooManyBits}
 use Rattle.pdo_plan.specs.declared.message_fault.MessageFault.TheVariants.{NotMappable, Mismatched, NoRpdo, NoDummy}
 use Rattle.pdo_plan.specs.declared.message_fault.MessageFault.TheVariants.{BadIdentifier, NoIdentifier, ReservedType}
 use Rattle.pdo_stations.specs.Devices.{Devices, has_pdo, has_start, has_times}
 use Rattle.cia301.specs.PdoObjects.{tpdo_object}
-use Rattle.pdo_plan.specs.Carried.{carried_by, carried_of, total_bits, lacks_some, mismatches}
+use Rattle.pdo_stations.specs.Carried.{carried_by, carried_of, total_bits, lacks_some}
+use Rattle.pdo_plan.specs.Carried.{mismatches}
 use Rattle.pdo_plan.specs.Plan.{Had, rpdo_for, identifier_for, has_unmappable, consumers_of, faults_that_hold, faults}
 use Rattle.pdo_plan.proofs.CarriedLemmas.{bits_same, lacks_same, mismatch_same}
 

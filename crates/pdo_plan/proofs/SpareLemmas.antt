@@ -5,7 +5,7 @@ use Rattle.cia301.specs.PdoObjects.{rpdo_object}
 use Rattle.pdo_stations.specs.Stations.{shape_at, devices_in}
 use Rattle.pdo_stations.proofs.AlikeLemmas.{pdo_at, no_pdo_at}
 use Rattle.pdo_plan.specs.declared.taken.Taken.{Taken}
-use Rattle.pdo_plan.specs.Flags.{is_flagged, is_spare}
+use Rattle.pdo_stations.specs.Flags.{is_flagged, is_spare}
 use Rattle.pdo_plan.specs.Least.{least_free}
 use Rattle.pdo_plan.specs.Plan.{is_free_rpdo, rpdo_for}
 use Rattle.pdo_plan.specs.Taken.{had_in}

@@ -8,7 +8,7 @@ use Rattle.pdo_plan.specs.declared.clean.Clean.{Clean}
 use Rattle.pdo_plan.specs.declared.outcome.Outcome.{Outcome}
 use Rattle.pdo_plan.specs.declared.outcome.Outcome.TheVariants.{Planned, Faulty}
 use Rattle.pdo_plan.specs.declared.taken.Taken.{Taken}
-use Rattle.pdo_plan.specs.Flags.{is_flagged}
+use Rattle.pdo_stations.specs.Flags.{is_flagged}
 use Rattle.pdo_plan.specs.Plan.{Had, is_at_node}
 
 -- a number at a node: by node, and then by number

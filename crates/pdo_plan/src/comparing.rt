@@ -66,15 +66,10 @@ fn same_clean(a: &Clean, b: &Clean) -> bool
 fn same_outcome(a: &Outcome, b: &Outcome) -> bool
     ensures { IsTrue result ↔ (a.now ≡ b.now) }
 {
-    match a {
-        Outcome::Planned(a) => match b {
-            Outcome::Planned(b) => same_clean(a, b),
-            Outcome::Faulty(_) => false,
-        },
-        Outcome::Faulty(a) => match b {
-            Outcome::Planned(_) => false,
-            Outcome::Faulty(b) => are_same(a.as_slice(), b.as_slice()),
-        },
+    match (a, b) {
+        (Outcome::Planned(a), Outcome::Planned(b)) => same_clean(a, b),
+        (Outcome::Faulty(a), Outcome::Faulty(b)) => are_same(a.as_slice(), b.as_slice()),
+        _ => false,
     }
 }
 

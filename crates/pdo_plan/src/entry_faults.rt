@@ -2,15 +2,15 @@
 ghost use Rattle.std.specs.Prelude.{◌≡◌, ◌||◌, ℕ, not, true};
 ghost use Rattle.std.specs.List.{list_any};
 ghost use Rattle.std.specs.Option.{option_copied, option_map_or};
-ghost use Rattle.pdo_plan.specs.Carried.{carried_at, carried_of, is_untakable, mismatches};
+ghost use Rattle.pdo_plan.specs.Carried.{is_untakable, mismatches};
 ghost use Rattle.pdo_plan.specs.Mapping.{differ};
 ghost use Rattle.pdo_plan.specs.Plan.{has_unmappable};
+ghost use Rattle.pdo_stations.specs.Carried.{carried_at, carried_of};
 ghost use Rattle.pdo_stations.specs.Devices.{width_at};
 ghost use Rattle.pdo_stations.specs.Stations.{devices_in};
 
-use crate::carried::{Carried, carried_at};
 use co_dict::Direction;
-use pdo_stations::Stations;
+use pdo_stations::{Carried, Stations, carried_at};
 use project_messages::{Linked, Sinks};
 
 /// Which faults the entries of a message have.

@@ -1,21 +1,18 @@
 //! The faults of a message.
 ghost use Rattle.std.specs.Prelude.{◌≡◌, ◌≤◌, ◌==◌, ◌&&◌, not, length, is_none, is_some, IfOk};
 ghost use Rattle.std.specs.List.{list_any};
-ghost use Rattle.pdo_plan.specs.Carried.{carried_of, lacks_some};
 ghost use Rattle.pdo_plan.specs.Plan.{rpdo_for, identifier_for, consumers_of, faults_that_hold, faults};
+ghost use Rattle.pdo_stations.specs.Carried.{carried_of, lacks_some};
 ghost use Rattle.pdo_stations.specs.Stations.{devices_in};
 ghost use Rattle.pdo_plan.specs.Taken.{had_in};
 
-use crate::carried::{Carried, total_bits};
-use crate::consumed::lacks_dummy;
 use crate::entry_faults::entry_faults;
 use crate::listed::Listed;
 use crate::message_fault::MessageFault;
 use crate::rpdos::rpdo_for;
-use crate::sender::has_tpdo;
 use crate::taken::Taken;
 use cia301::TransmissionType;
-use pdo_stations::Stations;
+use pdo_stations::{Carried, Stations, has_tpdo, lacks_dummy, total_bits};
 use project_messages::{Linked, Sinks};
 use std::alloc::{AllocError, Global};
 

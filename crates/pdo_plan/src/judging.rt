@@ -6,17 +6,16 @@ ghost use Rattle.pdo_plan.specs.Plan.{judged_message};
 ghost use Rattle.pdo_stations.specs.Stations.{devices_in};
 ghost use Rattle.pdo_plan.specs.Taken.{had_in};
 
-use crate::carried::{Carried, carried_sources, sent_mapping};
 use crate::clean::Clean;
-use crate::consumed::{consumers_of, taken_mapping};
 use crate::consumer::Consumer;
+use crate::consumers::consumers_of;
 use crate::faults::faults;
 use crate::identifiers::identifier_for;
 use crate::listed::Listed;
 use crate::outcome::Outcome;
 use crate::rpdos::rpdo_for;
 use crate::taken::Taken;
-use pdo_stations::Stations;
+use pdo_stations::{Carried, Stations, carried_sources, sent_mapping, taken_mapping};
 use project_messages::{Linked, Sinks};
 use std::alloc::{AllocError, Global};
 
@@ -41,7 +40,7 @@ fn consumer_by(
     Ok(Some(Consumer {
         node,
         rpdo,
-        mapping,
+        mapping: Listed::from_vec(mapping),
     }))
 }
 
@@ -87,7 +86,7 @@ fn clean(
         message: linked.message,
         start: linked.start,
         identifier,
-        mapping,
+        mapping: Listed::from_vec(mapping),
         consumers,
     })
 }

@@ -1,11 +1,10 @@
 //! The plan of messages: who gets which identifier and PDOs, or why it can't be sent.
 #![tactic(auto)]
 
-mod carried;
 mod clean;
 mod comparing;
-mod consumed;
 mod consumer;
+mod consumers;
 mod entry_faults;
 mod faults;
 mod fingerprint;
@@ -19,9 +18,7 @@ mod outcome;
 mod planned_message;
 mod planning;
 mod rpdos;
-mod sender;
 mod taken;
-mod taken_rpdos;
 
 pub use clean::Clean;
 pub use consumer::Consumer;

@@ -1,27 +1,16 @@
 //! The RPDOs of consumers.
-ghost use Rattle.std.specs.Prelude.{◌≡◌, ◌≤◌, ◌&&◌, not};
+ghost use Rattle.std.specs.Prelude.{◌≡◌, ◌≤◌};
 ghost use Rattle.pdo_plan.specs.Least.{least_free};
 ghost use Rattle.pdo_plan.specs.Plan.{rpdo_for};
-ghost use Rattle.pdo_plan.specs.Flags.{is_flagged, is_spare};
+ghost use Rattle.pdo_stations.specs.Flags.{is_spare};
 ghost use Rattle.pdo_stations.specs.Stations.{devices_in};
 ghost use Rattle.pdo_plan.specs.Taken.{had_in};
 
 use crate::taken::Taken;
-use crate::taken_rpdos::TakenRpdos;
-use pdo_stations::{Station, Stations};
+use pdo_stations::{Station, Stations, TakenRpdos, is_spare};
 
-/// Whether an RPDO of a node isn't taken, and has what the writes of so many mapping entries name.
-#[tactic(auto, unfolding(crate::specs::Flags::is_spare))]
-fn is_spare(station: &Station, taken: &TakenRpdos, node: u8, count: usize, number: u16) -> bool
-    requires few { count ≤ 64 }
-    requires low { 1 ≤ number }
-    requires high { number ≤ 512 }
-    ensures { result ≡ is_spare station.now taken.now.flags.items node count number }
-{
-    !taken.contains(node, number) && station.has_rpdo(number, count)
-}
-
-/// The least of a node's RPDOs that is so.
+/// The least of a node's RPDOs that isn't taken and has what the writes of so many mapping entries
+/// name.
 fn least_spare(station: &Station, taken: &TakenRpdos, node: u8, count: usize) -> Option<u16>
     requires { count ≤ 64 }
     ensures { result ≡ least_free (is_spare station.now taken.now.flags.items node count) 1 512 }

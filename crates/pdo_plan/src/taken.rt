@@ -3,13 +3,13 @@ ghost use Rattle.std.specs.Prelude.{◌≡◌, ◌==◌, ◌||◌, ◌&&◌, ◌
 ghost use Rattle.std.specs.List.{list_any};
 ghost use Rattle.std.specs.Ordering.{nat_cmp};
 ghost use Rattle.std.specs.BTreeSet.{contains};
-ghost use Rattle.pdo_plan.specs.Flags.{is_flagged};
+ghost use Rattle.pdo_stations.specs.Flags.{is_flagged};
 ghost use Rattle.pdo_plan.specs.Plan.{had_by, is_at_node, IsWithin};
 ghost use Rattle.pdo_plan.specs.Taken.{pair_cmp, had_in, had_too};
 
 use crate::clean::Clean;
 use crate::consumer::Consumer;
-use crate::taken_rpdos::TakenRpdos;
+use pdo_stations::TakenRpdos;
 use std::alloc::{AllocError, Global};
 use std::collections::BTreeSet;
 
@@ -46,7 +46,7 @@ fn take_rpdos(rpdos: &mut TakenRpdos, consumers: &[Consumer])
         ≡ (is_flagged rpdos.old.flags.items node number || list_any (is_at_node node number) consumers.now) }
 {
     for consumer in consumers {
-        rpdos.take(consumer);
+        rpdos.take(consumer.node, consumer.rpdo);
     }
 }
 

@@ -1,5 +1,7 @@
+pub mod Carried
 pub mod Devices
 pub mod Dummies
+pub mod Flags
 pub mod Rooms
 pub mod Shown
 pub mod Stations

@@ -2,9 +2,9 @@
 use Rattle.std.specs.Prelude.{ℕ, Bool, true, false, List, codes, ◌++◌, [], ◌∷◌, Result, Ok, Err}
 use Rattle.plain_text.specs.Lines.{line_feed}
 use Rattle.ini_text.specs.Content.{Content}
-use Rattle.eds_device.specs.declared.fault.DeviceFault.{DeviceFault}
+use Rattle.eds_places.specs.declared.fault.DeviceFault.{DeviceFault}
 use Rattle.ini_text.specs.Content.{Content}
-use Rattle.eds_device.specs.declared.fault.DeviceFault.TheVariants as device
+use Rattle.eds_places.specs.declared.fault.DeviceFault.TheVariants as device
 use Rattle.project_edits.specs.declared.fault.EditFault.{EditFault}
 use Rattle.project_edits.specs.declared.fault.EditFault.TheVariants.{Memory, Syntax, Range, Unknown, Taken, InUse, Limit}
 use Rattle.project_edits.specs.declared.fault.EditFault.TheVariants.{BadByte, Truncated}

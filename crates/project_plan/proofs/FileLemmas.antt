@@ -17,7 +17,7 @@ use Rattle.project_edits.specs.Eds.{most_bytes, most_lines, text_of as kept_text
 use Rattle.project_edits.specs.Edits.{IsSetting}
 use Rattle.project_edits.specs.Forms.{is_name}
 use Rattle.eds_device.specs.Entries.{entry_at}
-use Rattle.eds_device.specs.declared.fault.DeviceFault.TheVariants.{BadByte, Limit, Range}
+use Rattle.eds_places.specs.declared.fault.DeviceFault.TheVariants.{BadByte, Limit, Range}
 use Rattle.eds_device.specs.Faults.{device_of, most_entries}
 use Rattle.eds_device.specs.Places.{pairs_of}
 use Rattle.node_parameters.specs.Parameters.{parameter_writes}

@@ -29,8 +29,8 @@ use Rattle.concise_dcf.specs.Writes.{place_of}
 use Rattle.eds_device.specs.Described.{kind_at}
 use Rattle.eds_device.specs.Entries.{default_at, defaults_of}
 use Rattle.eds_device.specs.Places.{pairs_of}
-use Rattle.eds_device.proofs.MapLemmas.{alike, get_given}
-use Rattle.eds_device.proofs.PlaceLemmas.{has_place}
+use Rattle.eds_device.proofs.MapLemmas.{get_given}
+use Rattle.eds_places.proofs.PlaceLemmas.{alike, has_place}
 use Rattle.pdo_stations.specs.declared.mapped.Mapped.{Mapped}
 use Rattle.pdo_stations.specs.Devices.{is_unsigned}
 use Rattle.cia301.specs.PdoObjects.{is_communication_object, is_of_tpdos, mapping_object, rpdo_object, tpdo_object}

@@ -1,13 +1,11 @@
 //! The devices of a project that were read.
-ghost use Rattle.std.specs.Prelude.{◌≡◌, IfOk, IfSome, OnOk, OnErr, Ok, Some, option_copied};
+ghost use Rattle.std.specs.Prelude.{◌≡◌, IfSome, OnOk, OnErr, Some, option_copied};
 ghost use Rattle.std.specs.FinMap as map;
-ghost use Rattle.eds_device.specs.Faults.{device_of};
-ghost use Rattle.ini_text.specs.Content.{content_of};
 ghost use Rattle.project_plan.specs.Library.{with_device, IsRead};
 ghost use Rattle.project_plan.specs.Network.{device_at};
 
-use co_project::Project;
-use eds_device::{DataSheet, DeviceFault};
+use co_project::{Project, read_device};
+use eds_device::DataSheet;
 use kept_values::Shared;
 use std::alloc::{AllocError, Global};
 use std::collections::BTreeMap;
@@ -36,18 +34,6 @@ impl<'a> Model for Library<'a> {
     ghost view = { λ l. record { project = l.project.now; devices = map.from_entries (by_name l.devices.entries) } };
 
     ghost invariant = { λ l. AreRead l.project.now (map.from_entries (by_name l.devices.entries)) };
-}
-
-/// Reads the text of a device.
-fn read_device(alloc: Global, text: &[u8]) -> Result<Shared<DataSheet>, AllocError>
-    requires { device_of text.now ≡ Ok (content_of text.now) }
-    ensures { IfOk result (λ device. device ≡ content_of text.now) }
-{
-    match DataSheet::read(alloc, text) {
-        Ok(device) => Shared::new(alloc, device),
-        Err(DeviceFault::Memory) => Err(AllocError),
-        Err(_fault) => unreachable!(),
-    }
 }
 
 impl<'a> Library<'a> {
@@ -89,7 +75,8 @@ impl<'a> Library<'a> {
         let Some(text) = project.text(name) else {
             return Ok(());
         };
-        let device = read_device(self.alloc, text)?;
+        let read = read_device(self.alloc, text)?;
+        let device = Shared::new(self.alloc, read)?;
         let name = Vec::from_slice(self.alloc, name)?;
         self.devices.insert(name, device)?;
         Ok(())

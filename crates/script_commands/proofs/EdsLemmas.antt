@@ -12,7 +12,7 @@ use Rattle.plain_text.specs.Lines.{lines_of as text_lines}
 use Rattle.ini_text.specs.Text as ini
 use Rattle.ini_text.specs.Content.{Content, content_of}
 use Rattle.eds_device.specs.Faults.{device_of}
-use Rattle.eds_device.specs.declared.fault.DeviceFault.TheVariants as device
+use Rattle.eds_places.specs.declared.fault.DeviceFault.TheVariants as device
 use Rattle.project_edits.specs.declared.fault.EditFault.{EditFault}
 use Rattle.project_edits.specs.declared.fault.EditFault.TheVariants.{Limit}
 use Rattle.project_edits.specs.declared.edit.Edit.TheVariants.{Eds}

@@ -44,22 +44,22 @@ returns-clause-blocks g t c =
     let others = c.run_blocks.ensures in
     both_on_ok c.run_blocks.result _ _ _ (λ e h.
     let state : c.run_block.new.devices ++ c.run_blocks.new.devices ≡ outcome (each step rest) image =
-    both_state step rest image c.run_block.new.devices c.run_blocks.new.devices (rw front at one.state)
-    (rw (back, one.lasts.kept) at e) in
+    both_state step rest image c.run_block.new.devices c.run_blocks.new.devices (rw front at one.ran.state)
+    (rw (back, one.lasts.kept) at e.state) in
     let blocks : AreBlocksOf (c.run_block.new.block ∷ c.run_blocks.new.blocks)
     (c.run_block.new.devices ++ c.run_blocks.new.devices) =
     both_blocks step rest image c.run_block.new.block c.run_blocks.new.blocks c.run_block.new.devices
-    c.run_blocks.new.devices (rw front at one.state) (rw (back, one.lasts.kept) at e) one.block h in
+    c.run_blocks.new.devices (rw front at one.ran.state) (rw (back, one.lasts.kept) at e.state) one.block h in
     rw (c.split_at_mut-asleep.ensures.front, still)
     (passed_blocks step n (8 * n) c.args.blocks.now _ ds (c.run_block.new.devices ++ c.run_blocks.new.devices) image refl
     c.asleep-asleep.ensures.within c.requires.known (rw woken at state)
     (subst (λ (xs : List Block). AreBlocksOf (xs ++ c.run_blocks.new.blocks)
     (c.run_block.new.devices ++ c.run_blocks.new.devices))
     (sym (one_set c.split_at_mut-firsts.result.0.now c.run_block.new.block c.split_at_mut-firsts.ensures.front_len))
-    blocks))) others.state others.blocks
+    blocks))) others.ran others.blocks
 
-pub returns-clause-state : goal.returns-clause-state
-returns-clause-state g t c =
+pub returns-clause-ran : goal.returns-clause-ran
+returns-clause-ran g t c =
     let n = c.asleep-asleep.result in
     let ds = c.args.devices.now in
     let rest = c.split_at_mut-still.result.1.now in
@@ -77,27 +77,14 @@ returns-clause-state g t c =
     c.asleep-asleep.ensures.bound refl c.requires.known c.asleep-asleep.ensures.asleep in
     on_ok_weaker c.run_blocks.result (λ e.
     let state : c.run_block.new.devices ++ c.run_blocks.new.devices ≡ outcome (each step rest) image =
-    both_state step rest image c.run_block.new.devices c.run_blocks.new.devices (rw front at one.state)
-    (rw (back, one.lasts.kept) at e) in
-    rw still (passed_state step ds (8 * n) idle image (c.run_block.new.devices ++ c.run_blocks.new.devices)
-    (rw woken at state))) c.run_blocks.ensures.state
-
-pub returns-clause-asked : goal.returns-clause-asked
-returns-clause-asked g t c =
-    let n = c.asleep-asleep.result in
-    let ds = c.args.devices.now in
-    let rest = c.split_at_mut-still.result.1.now in
-    let step = at_instant c.args.t c.args.delivery.now in
-    let woken = rest_is (8 * n) c.devices_of.result ds rest c.devices_of.ensures c.split_at_mut-still.ensures.back in
-    let front = front_is c.first_block.result rest c.split_at_mut-block.result.0.now c.first_block.ensures
-    c.split_at_mut-block.ensures.front in
-    let back = back_is c.first_block.result rest c.split_at_mut-block.result.1.now c.first_block.ensures
-    c.split_at_mut-block.ensures.back in
-    let idle = idle_first c.args.t c.args.delivery.now n (8 * n) c.args.blocks.now ds
-    c.asleep-asleep.ensures.bound refl c.requires.known c.asleep-asleep.ensures.asleep in
-    on_ok_weaker c.run_blocks.result (λ e. passed_asked step ds (8 * n) idle _ _ _ _
-    (rw woken at (both_asked step rest _ _ _ _ _ _ (rw front at c.in_ok-ran.ensures.asked) (rw back at e))))
-    c.run_blocks.ensures.asked
+    both_state step rest image c.run_block.new.devices c.run_blocks.new.devices (rw front at one.ran.state)
+    (rw (back, one.lasts.kept) at e.state) in
+    record {
+      state = rw still (passed_state step ds (8 * n) idle image (c.run_block.new.devices ++ c.run_blocks.new.devices)
+          (rw woken at state));
+      asked = passed_asked step ds (8 * n) idle _ _ _ _
+          (rw woken at (both_asked step rest _ _ _ _ _ _ (rw front at one.ran.asked) (rw back at e.asked)));
+    }) c.run_blocks.ensures.ran
 
 pub returns-clause-still : goal.returns-clause-still
 returns-clause-still g t c =
@@ -124,8 +111,8 @@ returns-clause-still g t c =
 
 -- ---- where no block has to run
 
-pub returns-then-is_empty-clause-state : goal.returns-then-is_empty-clause-state
-returns-then-is_empty-clause-state g t c =
+pub returns-then-is_empty-clause-ran : goal.returns-then-is_empty-clause-ran
+returns-then-is_empty-clause-ran g t c =
     let n = c.asleep-asleep.result in
     let ds = c.args.devices.now in
     let rest = c.split_at_mut-still.result.1.now in
@@ -138,21 +125,10 @@ returns-then-is_empty-clause-state g t c =
     c.asleep-asleep.ensures.bound refl c.requires.known c.asleep-asleep.ensures.asleep in
     let none = none_left awake rest (search rules) (behind n c.args.blocks.now awake ds rest
     c.split_at_mut-asleep.ensures.back woken c.requires.known) in
-    rw still (all_passed step ds (8 * n) idle (g.P.Asked.seen c.args.shapes.now).image rest woken none)
-
-pub returns-then-is_empty-clause-asked : goal.returns-then-is_empty-clause-asked
-returns-then-is_empty-clause-asked g t c =
-    let n = c.asleep-asleep.result in
-    let ds = c.args.devices.now in
-    let rest = c.split_at_mut-still.result.1.now in
-    let awake = c.split_at_mut-asleep.result.1.now in
-    let step = at_instant c.args.t c.args.delivery.now in
-    let woken = rest_is (8 * n) c.devices_of.result ds rest c.devices_of.ensures c.split_at_mut-still.ensures.back in
-    let idle = idle_first c.args.t c.args.delivery.now n (8 * n) c.args.blocks.now ds
-    c.asleep-asleep.ensures.bound refl c.requires.known c.asleep-asleep.ensures.asleep in
-    let none = none_left awake rest (search rules) (behind n c.args.blocks.now awake ds rest
-    c.split_at_mut-asleep.ensures.back woken c.requires.known) in
-    none_asked step ds (8 * n) idle _ _ rest woken none
+    record {
+      state = rw still (all_passed step ds (8 * n) idle (g.P.Asked.seen c.args.shapes.now).image rest woken none);
+      asked = none_asked step ds (8 * n) idle _ _ rest woken none;
+    }
 
 pub run_blocks-requires : goal.run_blocks-requires
 run_blocks-requires g t c κs within =

@@ -17,12 +17,12 @@ loop-device-preserved g c =
     let within : i < length ss = omega arith in
     let e = c.in_ok-power.ensures in
     record {
-      state = each_state step ss i d t within image (rw old.lasts.kept at e.state) ∙ old.state;
-      noted = each_noted step ss i d t within _ _ e.asked.noted ∙ old.noted;
+      state = each_state step ss i d t within image (rw old.lasts.kept at e.ran.state) ∙ old.state;
+      noted = each_noted step ss i d t within _ _ e.ran.asked.noted ∙ old.noted;
       counted = omega (
         arith,
         each_counted step ss i d t within image (g.P.Asked.asks c.loop-device.shapes)
-            (g.P.Asked.asks c.power.new.shapes) (rw old.lasts.kept at e.asked.counted),
+            (g.P.Asked.asks c.power.new.shapes) (rw old.lasts.kept at e.ran.asked.counted),
         old.counted,
       );
       lasts = lasts_in_turn old.lasts e.lasts;

@@ -9,5 +9,5 @@ with-requires c = rw c.requires (sync_below c.args.device.now.learnt c.args.devi
 pub returns-then-awaits_sync-clause-sync : goal.returns-then-awaits_sync-clause-sync
 returns-then-awaits_sync-clause-sync c = λ out.
     let d = c.args.device.now in
-    absurd (never c.args.groups c.with.result c.args.sync (sync_identifier d.learnt d.values) c.requires
-    (sync_below d.learnt d.values) c.with.ensures out)
+    let sync = sync_identifier d.learnt d.values in
+    absurd (never c.args.sync sync c.requires (c.with.ensures.with sync (sync_below d.learnt d.values) out))

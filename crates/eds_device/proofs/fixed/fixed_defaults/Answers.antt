@@ -2,9 +2,9 @@ use Rattle.std.proofs.Common.{◌≡◌, ℕ, List, Some, get_or, length, refl, 
 use Rattle.std.specs.List.{slice_get}
 use Rattle.std.proofs.lemmas.Option.{slice_get-get_or}
 use Rattle.eds_device.specs.Fixed.{AreFixed}
-use Rattle.eds_device.specs.Table.{standing}
+use Rattle.eds_places.specs.Table.{standing}
 use Rattle.eds_device.proofs.FixedLemmas.{described_fixed, length_more, one_more_fixed}
-use Rattle.eds_device.proofs.TableLemmas.{stand_there}
+use Rattle.eds_places.proofs.TableLemmas.{stand_there}
 use Rattle.eds_device.proofs.fixed.fixed_defaults.Goals as goal
 
 pub loop-place-init : goal.loop-place-init

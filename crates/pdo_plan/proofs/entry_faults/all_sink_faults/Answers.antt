@@ -1,6 +1,6 @@
 use Rattle.std.proofs.Common.{◌≡◌, ℕ, ◌∷◌, Option, true, ap, ◌∙◌, rules}
 use Rattle.std.specs.Option.{option_map_or}
-use Rattle.pdo_plan.specs.declared.carried.Carried.{Carried}
+use Rattle.pdo_stations.specs.declared.carried.Carried.{Carried}
 use Rattle.pdo_plan.specs.Carried.{is_untakable, mismatches}
 use Rattle.pdo_plan.specs.Mapping.{differ}
 use Rattle.pdo_stations.specs.Devices.{width_at}

@@ -1,7 +1,8 @@
 use Rattle.std.proofs.Common.{◌≡◌, ◌||◌}
 use Rattle.std.specs.List.{list_any}
 use Rattle.std.specs.Option.{option_copied}
-use Rattle.pdo_plan.specs.Carried.{carried_at, is_untakable, mismatches}
+use Rattle.pdo_stations.specs.Carried.{carried_at}
+use Rattle.pdo_plan.specs.Carried.{is_untakable, mismatches}
 use Rattle.pdo_stations.specs.Stations.{devices_in}
 use Rattle.pdo_plan.proofs.entry_faults.all_sink_faults.Given as goal
 

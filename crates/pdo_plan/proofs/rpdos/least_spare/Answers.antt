@@ -1,5 +1,5 @@
 use Rattle.std.proofs.Common.{◌≡◌, ℕ, true, Bool, Some, None, rules, arith}
-use Rattle.pdo_plan.specs.Flags.{is_spare}
+use Rattle.pdo_stations.specs.Flags.{is_spare}
 use Rattle.pdo_plan.proofs.LeastLemmas.{is_least_free}
 use Rattle.pdo_plan.proofs.rpdos.least_spare.Goals as goal
 

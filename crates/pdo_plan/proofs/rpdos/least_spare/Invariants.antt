@@ -1,5 +1,5 @@
 use Rattle.std.proofs.Common.{◌≡◌, ℕ, ◌<◌, ◌≤◌, false}
-use Rattle.pdo_plan.specs.Flags.{is_spare}
+use Rattle.pdo_stations.specs.Flags.{is_spare}
 use Rattle.pdo_plan.proofs.rpdos.least_spare.Given as goal
 
 -- none so far is free

@@ -1,6 +1,6 @@
 use Rattle.std.proofs.Common.{◌≡◌, ℕ, ◌||◌, take}
 use Rattle.std.specs.List.{list_any}
-use Rattle.pdo_plan.specs.Flags.{is_flagged}
+use Rattle.pdo_stations.specs.Flags.{is_flagged}
 use Rattle.pdo_plan.specs.Plan.{is_at_node}
 use Rattle.pdo_plan.proofs.taken.take_rpdos.Given as goal
 

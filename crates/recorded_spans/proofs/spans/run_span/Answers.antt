@@ -10,10 +10,10 @@ returns-in_ok-run_to g c =
     let r = c.in_ok-run_to.ensures in
     let e = first_span c.args.start.now seen.image in
     rw c.if-number-eq0.true (record {
-      state = (rw (p.lasts.kept, p.state) at r.state) ∙ ap (λ x. x.0) (sym e);
-      told = (rw (p.lasts.kept, p.state) at r.told) ∙ ap (λ x. c.args.lines.now ++ x.1) (sym e);
-      noted = (rw (p.asked.noted, p.state) at r.noted) ∙ sym (first_seen c.args.start.now seen);
-      counted = rw (first_reads c.args.start.now seen.image, length-append) (omega (arith, p.asked.counted, rw (p.lasts.kept, p.state) at r.counted));
+      state = (rw (p.lasts.kept, p.ran.state) at r.state) ∙ ap (λ x. x.0) (sym e);
+      told = (rw (p.lasts.kept, p.ran.state) at r.told) ∙ ap (λ x. c.args.lines.now ++ x.1) (sym e);
+      noted = (rw (p.ran.asked.noted, p.ran.state) at r.noted) ∙ sym (first_seen c.args.start.now seen);
+      counted = rw (first_reads c.args.start.now seen.image, length-append) (omega (arith, p.ran.asked.counted, rw (p.lasts.kept, p.ran.state) at r.counted));
       kept = r.kept ∙ p.lasts.kept;
     })
 
@@ -31,4 +31,4 @@ returns-in_ok-run_to-2 g c =
     })
 
 pub run_to-requires-clause-before : goal.run_to-requires-clause-before
-run_to-requires-clause-before g c = rw c.in_ok-bus.ensures.state (before_first (g.P.Asked.seen c.args.parts.now).image c.requires.image)
+run_to-requires-clause-before g c = rw c.in_ok-bus.ensures.ran.state (before_first (g.P.Asked.seen c.args.parts.now).image c.requires.image)

@@ -19,15 +19,15 @@ loop-i-preserved g c =
     let within : i < length c.args.self.now.rpdos = rw (← c.self.view_is) (omega (arith, c.loop-i-test.true)) in
     let e = c.in_ok-take_by_rpdo.ensures in
     record {
-      state = walked_state step i n s s' within image (rw kept at e.state) ∙ old.state;
-      noted = walked_noted step i n s s' within _ _ e.state e.asked.noted ∙ old.noted;
+      state = walked_state step i n s s' within image (rw kept at e.ran.state) ∙ old.state;
+      noted = walked_noted step i n s s' within _ _ e.ran.state e.ran.asked.noted ∙ old.noted;
       counted = omega (
         arith,
-        walked_counted step i n s s' within image (rw kept at e.state)
-            (g.P.Asked.asks c.loop-i.shapes) (g.P.Asked.asks c.take_by_rpdo.new.shapes) (rw kept at e.asked.counted),
+        walked_counted step i n s s' within image (rw kept at e.ran.state)
+            (g.P.Asked.asks c.loop-i.shapes) (g.P.Asked.asks c.take_by_rpdo.new.shapes) (rw kept at e.ran.asked.counted),
         old.counted,
       );
       lasts = lasts_in_turn old.lasts e.lasts;
-      many = ap (λ (x : Device). length x.rpdos) (rw kept at e.state)
+      many = ap (λ (x : Device). length x.rpdos) (rw kept at e.ran.state)
           ∙ received_many image c.args.t c.loop-i.self c.args.frame.now i ∙ old.many;
     }

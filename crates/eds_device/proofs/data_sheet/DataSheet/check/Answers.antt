@@ -1,6 +1,7 @@
 use Rattle.std.proofs.Common.{◌∙◌, ap, Err, Ok}
 use Rattle.std.proofs.lemmas.Result.{err_from_is_err_and}
-use Rattle.eds_device.proofs.ReadLemmas.{ini_refused, read_as, places_refused, places_given_back}
+use Rattle.eds_places.proofs.AddingLemmas.{places_refused, places_given_back}
+use Rattle.eds_device.proofs.ReadLemmas.{ini_refused, read_as}
 use Rattle.eds_device.proofs.data_sheet.DataSheet.check.Goals as goal
 
 pub returns-in_err-ini-clause-content : goal.returns-in_err-ini-clause-content

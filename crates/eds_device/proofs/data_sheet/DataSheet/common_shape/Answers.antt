@@ -3,7 +3,7 @@ use Rattle.std.proofs.lemmas.List.{take_all}
 use Rattle.co_dict.specs.declared.entry.Entry.{Entry}
 use Rattle.co_dict.specs.Shapes.{Shaped}
 use Rattle.eds_device.specs.Entries.{entry_at, shape_of}
-use Rattle.eds_device.specs.Places.{pairs_of}
+use Rattle.eds_places.specs.Places.{pairs_of}
 use Rattle.eds_device.proofs.MapLemmas.{has_none, has_more, has_all}
 use Rattle.eds_device.proofs.data_sheet.DataSheet.common_shape.Goals as goal
 

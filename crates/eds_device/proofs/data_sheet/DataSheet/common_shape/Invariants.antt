@@ -1,6 +1,6 @@
 use Rattle.std.proofs.Common.{◌≡◌, ℕ, take}
 use Rattle.eds_device.specs.Entries.{entry_at, dummies_of}
-use Rattle.eds_device.specs.Places.{pairs_of}
+use Rattle.eds_places.specs.Places.{pairs_of}
 use Rattle.eds_device.proofs.MapLemmas.{Has}
 use Rattle.eds_device.proofs.data_sheet.DataSheet.common_shape.Given as goal
 

@@ -1,7 +1,7 @@
 use Rattle.std.proofs.Common.{◌≡◌, ◌+◌, ◌<◌, ℕ, List, Option, length, get_or, take, refl, ap}
 use Rattle.std.proofs.lemmas.List.{take_all}
 use Rattle.eds_device.specs.Entries.{default_at, defaults_of}
-use Rattle.eds_device.specs.Places.{pairs_of}
+use Rattle.eds_places.specs.Places.{pairs_of}
 use Rattle.eds_device.proofs.MapLemmas.{has_none, has_more, has_all}
 use Rattle.eds_device.proofs.data_sheet.DataSheet.defaults.Goals as goal
 

@@ -1,6 +1,6 @@
 use Rattle.std.proofs.Common.{◌≡◌, take}
 use Rattle.eds_device.specs.Entries.{default_at}
-use Rattle.eds_device.specs.Places.{pairs_of}
+use Rattle.eds_places.specs.Places.{pairs_of}
 use Rattle.eds_device.proofs.MapLemmas.{Has}
 use Rattle.eds_device.proofs.data_sheet.DataSheet.defaults.Given as goal
 

@@ -26,14 +26,14 @@ pub invariant_of-self-2 : goal.invariant_of-self-2
 invariant_of-self-2 c =
     added_described c.self.inside.project.now c.self.inside.devices c.insert.new.self c.args.name.now c.in_ok-name.name
     c.in_ok-device.device c.in-Some.text.now
-    c.in_ok-name.ensures.items c.in_ok-device.ensures (sym c.in-Some.ensures.text) c.in_ok-insert.ensures.updates
+    c.in_ok-name.ensures.items (c.in_ok-device.ensures ∙ c.in_ok-read.ensures) (sym c.in-Some.ensures.text) c.in_ok-insert.ensures.updates
     c.self.invariant
 
 pub returns-clause-ok : goal.returns-clause-ok
 returns-clause-ok c =
     device_added c.self.inside.project.now c.self.inside.devices c.insert.new.self c.args.name.now c.in_ok-name.name
     c.in_ok-device.device c.in-Some.text.now
-    c.in_ok-name.ensures.items c.in_ok-device.ensures (sym c.in-Some.ensures.text) c.in_ok-insert.ensures.updates
+    c.in_ok-name.ensures.items (c.in_ok-device.ensures ∙ c.in_ok-read.ensures) (sym c.in-Some.ensures.text) c.in_ok-insert.ensures.updates
     c.args.self.now c.self.view_is
 
 pub returns-clause-read : goal.returns-clause-read

@@ -1,0 +1,8 @@
+use Rattle.nmt_boot.proofs.BeatLemmas.{due_at_multiples, frame_on_time}
+use Rattle.nmt_boot.proofs.laws.periodic_messages_come_at_whole_multiples.Goals as goal
+
+pub returns-clause-frames : goal.returns-clause-frames
+returns-clause-frames c = frame_on_time
+
+pub returns-clause-due : goal.returns-clause-due
+returns-clause-due c = due_at_multiples
