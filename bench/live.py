@@ -10,12 +10,13 @@ a parameter changes; and the example servo_axes, in which a parameter changes. F
             of each node, `trace`, `project`; its replies read, and nothing made of them
     whole   `cobtool live` that is started over it, until all is there for the page
     files   a save while `cobtool live` follows it, until all but the run is there for the page
-    page    the same, until the run is there too
+    first   the same, until the first part of the run is there, or all of it where it doesn't come in parts
+    page    the same, until all of the run is there
 
 without the browser, and without the wait of at most 0.02 s for the next look. Prints the least of so many
-turns in milliseconds, and page beside afresh and beside whole. Limits: a third of afresh for a parameter of
-one of 126 drives and for the event, 100 ms for the example; there are none where cobench simulates all of
-ten seconds anew. Run it from anywhere: bench/live.py crates/cobench/out/cobench
+turns in milliseconds, and first and page beside afresh. Limits: a third of afresh, for first where cobench
+simulates all of ten seconds anew, for page where it simulates little; 100 ms for the example. Run it from
+anywhere: bench/live.py crates/cobench/out/cobench
 """
 import os
 import re
@@ -56,27 +57,29 @@ def axes():
     return day_script().encode().replace(b"<", b"<" + os.path.dirname(os.path.abspath(SHEET)).encode() + b"/")
 
 
-# Script, what changes, what stands for the number of the turn there, the most of afresh, and the most in milliseconds.
+SHARE, MOST = 1 / 3, 100        # of afresh, and milliseconds
+
+# Script, what changes, what stands for the number of the turn there, and what has a limit: `first` or `page` beside afresh, or milliseconds.
 CHANGES = [
-    (long_run, "a parameter of one of 126 nodes", b"param 60 2000 0 7", b"param 60 2000 0 %d", None, None),
-    (long_run, "a heartbeat time of one of 126 nodes", b"param 60 1017 0 100", b"param 60 1017 0 10%d", None, None),
-    (long_run, "an event at 9.9 of 10 s", b"event 999 9900000 set 3 6064 0 5", b"event 999 9900000 set 3 6064 0 %d", 1 / 3, None),
-    (long_run, "a message's type", b"message m05 5 1 2 0 0 0", b"message m05 5 1 %d 0 0 0", None, None),
-    (drives, "a parameter of one of 126 drives", b"param 60 1017 0 100", b"param 60 1017 0 10%d", 1 / 3, None),
-    (axes, "a parameter of the example", b"param 1 1017 0 100", b"param 1 1017 0 10%d", None, 100),
+    (long_run, "a parameter of one of 126 nodes", b"param 60 2000 0 7", b"param 60 2000 0 %d", "first"),
+    (long_run, "a heartbeat time of one of 126 nodes", b"param 60 1017 0 100", b"param 60 1017 0 10%d", "first"),
+    (long_run, "an event at 9.9 of 10 s", b"event 999 9900000 set 3 6064 0 5", b"event 999 9900000 set 3 6064 0 %d", "page"),
+    (long_run, "a message's type", b"message m05 5 1 2 0 0 0", b"message m05 5 1 %d 0 0 0", "first"),
+    (drives, "a parameter of one of 126 drives", b"param 60 1017 0 100", b"param 60 1017 0 10%d", "page"),
+    (axes, "a parameter of the example", b"param 1 1017 0 100", b"param 1 1017 0 10%d", ""),
 ]
 
 
 class Stopwatch(Feed):
-    """A feed that tells when the files and when the run were put into it."""
+    """A feed that tells when the files, and when the parts of the run and all of it were put into it."""
 
     def put(self, items):
         super().put(items)
         now = time.perf_counter()
         if "table/messages" in items:
-            self.files = now
+            self.files, self.runs = now, []
         if "run" in items:
-            self.run = now
+            self.runs.append(now)
 
 
 def timed(work):
@@ -91,7 +94,7 @@ def save(text):
 
 
 def measure(program, text, old, new):
-    """The seconds of all turns: afresh, whole, files and page."""
+    """The least of all turns in milliseconds: afresh, whole, files, first and page."""
     feed, turns = Stopwatch(), []
     save(text)
     follower = Follower("network.txt", [program], feed)
@@ -100,32 +103,37 @@ def measure(program, text, old, new):
         save(text.replace(old, new % (turn + 3)))
         start = time.perf_counter()
         follower.look()
-        files, page = feed.files - start, feed.run - start
+        files, first, page = feed.files - start, feed.runs[0] - start, feed.runs[-1] - start
         if follower.records[-1]["edits"] is None or follower.records[-1]["count"] != 1:
             sys.exit("not one edit: " + str(follower.records[-1]))
         afresh = timed(lambda: session.run("network.txt", program, QUERIES))
         other = Follower("network.txt", [program], Feed())
         whole = timed(other.look)
         other.close()
-        turns.append((afresh, whole, files, page))
+        turns.append((afresh, whole, files, first, page))
     follower.close()
     return [1000 * min(column) for column in zip(*turns)]
+
+
+def is_over(limit, afresh, first, page):
+    """Whether a change is over its limit."""
+    return {"first": first > SHARE * afresh, "page": page > SHARE * afresh}.get(limit, page > MOST)
 
 
 def main():
     if len(sys.argv) != 2:
         sys.exit("usage: live.py PROGRAM")
     program = os.path.abspath(sys.argv[1])
-    print(f"{'':38} {'afresh':>8} {'whole':>8} {'files':>8} {'page':>8}  of afresh  of whole")
+    print(f"{'':38} {'afresh':>8} {'whole':>8} {'files':>8} {'first':>8} {'page':>8}  of afresh")
     failed = False
     with tempfile.TemporaryDirectory() as folder:
         os.chdir(folder)
-        for script, what, old, new, share, most in CHANGES:
-            afresh, whole, files, page = measure(program, script(), old, new)
-            is_over = share and page > share * afresh or most and page > most
-            words = ": over the limit" if is_over else ""
-            print(f"{what:38} {afresh:8.1f} {whole:8.1f} {files:8.1f} {page:8.1f} {page / afresh:10.2f} {page / whole:9.2f}{words}", flush=True)
-            failed = failed or is_over
+        for script, what, old, new, limit in CHANGES:
+            times = afresh, _, _, first, page = measure(program, script(), old, new)
+            over = is_over(limit, afresh, first, page)
+            shown = " ".join(f"{each:8.1f}" for each in times) + f"  {first / afresh:.2f} {page / afresh:.2f}"
+            print(f"{what:38} {shown}{': over the limit' if over else ''}", flush=True)
+            failed = failed or over
     return 1 if failed else 0
 
 

@@ -11,6 +11,25 @@ from cobench_tools.live.follow import Follower
 from helper import example, kept_at, put
 
 FOLDER = kept_at("live")
+HOLD = "hold"       # while there is a file of this name, the long run waits behind its first second
+
+# A script with a long run, for long_stand_in: four seconds, in which each node sends its 2000h each 10 ms.
+LONG = b"""eds drive 8
+[2000]
+DataType=6
+[2001]
+DataType=6
+[2002]
+DataType=6
+[1018sub1]
+DataType=7
+node 5 pump drive
+node 6 guard drive
+param 5 2000 0 1
+event 1 3500000 set 6 2000 0 7
+event 2 3900000 power 6 off
+horizon 4000000
+"""
 
 
 def day_script():
@@ -27,16 +46,23 @@ def words():
     return [sys.executable, "-S", "-E", kept_at("open_stand_in"), kept_at(os.path.join("live", "replies"))]
 
 
+def long_words():
+    """What stands in for a cobench with a long run."""
+    return [sys.executable, "-S", "-E", kept_at("long_stand_in"), HOLD]
+
+
 class Scene:
-    """A copy of tests/live in the folder of the test, and a follower of its script.
+    """A copy of tests/live in the folder of the test, or another script, and a follower of it.
 
     items  what a page that was there from the start has
     new    the items that came last
     """
 
-    def __init__(self, program=None, script="network.txt"):
+    def __init__(self, program=None, script="network.txt", text=None):
         for name in ("drive.eds", "network.txt"):
             shutil.copy(os.path.join(FOLDER, name), name)
+        if text:
+            put(script, text)
         self.script, self.feed, self.items, self.new, self.number = script, Feed(), {}, {}, 0
         self.follower = Follower(script, program or words(), self.feed)
 

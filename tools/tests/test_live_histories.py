@@ -1,10 +1,13 @@
 """`live` over random histories of saves: what the page has is what a cobench answers that is started afresh."""
+import contextlib
 import json
 import os
 import shlex
 import sys
+from unittest import mock
 
 from cobench_tools import session, tool
+from cobench_tools.live import follow, programs
 from cobench_tools.live.feed import Feed
 from cobench_tools.live.follow import Follower
 from helper import in_parallel, kept_at, put, real
@@ -12,6 +15,14 @@ from histories import history
 from live_scene import sorts_of, trace_of, window_of
 
 KEPT = [sys.executable, "-S", "-E", kept_at("open_stand_in"), kept_at(os.path.join("live", "histories"))]
+
+
+@contextlib.contextmanager
+def in_parts():
+    """Has runs that are as short as those of histories come in parts, of which it keeps how many there were."""
+    answer = mock.patch.object(Follower, "answer_part", autospec=True, side_effect=Follower.answer_part)
+    with mock.patch.object(follow, "SHORT", -1), mock.patch.object(programs, "PARTS", (10_000,)), answer as answered:
+        yield answered
 
 
 class Seen:
@@ -96,9 +107,17 @@ def test_kept_histories_are_followed():
     assert [is_followed(seed, KEPT, 3) for seed in (1, 2, 3)] == [1, 2, 3]
 
 
+def test_kept_histories_are_followed_in_parts():
+    with in_parts() as answered:
+        assert [is_followed(seed, KEPT, 3) for seed in (1, 2, 3)] == [1, 2, 3]
+        assert answered.call_count > 6
+
+
 def generated_history(seed):
+    """A history that a cobench answers; every second one has its runs in parts."""
     try:
-        return is_followed(seed, shlex.split(real()), 8)
+        with in_parts() if seed % 2 else contextlib.nullcontext():
+            return is_followed(seed, shlex.split(real()), 8)
     except AssertionError as error:
         return f"{seed}: {error}"
 

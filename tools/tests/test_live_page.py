@@ -1,22 +1,27 @@
 """`live` in a browser: the page follows the saves of a script. Skipped without Chromium."""
 import contextlib
+import os
 import re
 import subprocess
 import sys
 
 from browser import Browser
 from helper import COBTOOL, put
-from live_scene import Scene, words
+from live_scene import HOLD, LONG, Scene, long_words, words
 
 NEW = b"param 5 1017 0 50"
+IS_PART = "live.items.get('run') && live.items.get('run').known === 999999"
+PLACES = """JSON.stringify(['header', '#tabs', '#parts', '#tab-run', '.timeline .view', '.timeline .corner', '.timeline .lanes'].map(each =>
+    (({ x, y }) => [x, y])(document.querySelector(each).getBoundingClientRect())))"""
 
 
 class Opened:
     """A program `cobtool live` over the script of a scene, and a page of it in a browser."""
 
-    def __init__(self, browser, **more):
-        self.scene, self.browser = Scene(), browser
-        self.program = subprocess.Popen([sys.executable, COBTOOL, "live", "--port", "0", "--cobench", " ".join(words()), self.scene.script],
+    def __init__(self, browser, scene=None, program=None, **more):
+        self.scene, self.browser = scene or Scene(), browser
+        program = " ".join(program or words())
+        self.program = subprocess.Popen([sys.executable, COBTOOL, "live", "--port", "0", "--cobench", program, self.scene.script],
                                         stdout=subprocess.PIPE)
         self.address = re.match(rb"(http://127.0.0.1:[0-9]+/)", self.program.stdout.readline()).group(1).decode()
         self.page = self.another(**more)
@@ -96,6 +101,91 @@ def test_the_timeline_stays_where_it_is_and_marks_what_is_new():
         assert pink > 0, "a line stands under the new frame"
 
 
+@contextlib.contextmanager
+def halved(**more):
+    """A page with a part of its run, of which the rest waits until HOLD is taken away."""
+    scene = Scene(long_words(), "long.txt", LONG)
+    with opened(scene=scene, program=long_words(), **more) as live:
+        live.page.value("live.tabs.choose(3)")
+        live.save(b"param 5 2000 0 1", b"param 5 2000 0 3")
+        live.before = live.page.value(PLACES)
+        open(HOLD, "w").close()
+        put("long.txt", LONG.replace(b"param 5 2000 0 1", b"param 5 2000 0 2"))
+        live.page.wait(IS_PART)
+        live.page.settle()
+        yield live
+
+
+def release(page):
+    """Has the rest of the run come."""
+    os.remove(HOLD)
+    page.wait("live.items.get('run').known === live.items.get('run').end && live.items.get('status').state === 'well'")
+    page.settle()
+
+
+# Of the frames of node 5 before and behind the part: the heads of their tips, whether they are new, and their values.
+TOLD = """[995005, 1005005].map(at => { const { trace } = live.run.timeline, frame = [...trace.time].indexOf(at);
+    return [tellFrame(live.run.timeline, frame).head, trace.fresh.has(frame), trace.bytes(frame), trace.stateAt(1, at)]; })"""
+
+# The colour of a frame of node 5 before and behind the part, as its blue above its red.
+BLUES = """[505005, 1505005].map(at => { const view = live.run.timeline, lane = view.lanes.shown[1], x = Math.round(view.scale.x(at)) - .5;
+    const y = AXIS + lane.top + view.lanes.rowTop(lane, lane.kinds[0]) + 5, ratio = devicePixelRatio;
+    const [red, , blue] = view.canvas.getContext('2d').getImageData(x * ratio, y * ratio, 1, 1).data; return blue - red; })"""
+
+
+def test_what_is_not_simulated_yet_is_pale_and_of_the_save_before():
+    for size in ({"wide": 1280, "high": 800}, {"wide": 390, "high": 844, "touch": True, "dark": True}):
+        with halved(**size) as live:
+            page = live.page
+            assert page.value(PLACES) == live.before, "nothing jumps"
+            assert text(page, ".waits") == "simulating from 1,000 ms on; what is pale is of the save before"
+            assert page.value("document.documentElement.scrollWidth") <= size["wide"]
+            told = page.value(TOLD)
+            assert told[0] == ["995.005 ms · PDO · pump", True, "0200", "pre-operational"], told
+            assert told[1] == ["1,005.005 ms · PDO · pump · of the save before", False, "0300", ""], told
+            page.value("live.run.timeline.showAll()")
+            page.settle()
+            assert page.value("[...document.querySelectorAll('.legend .state')].map(each => each.textContent)") == ["off", "pre-operational"]
+            known, pale = page.value(BLUES)
+            assert known > 2 * pale > 0, (known, pale)
+            page.value("live.run.wait(false)")
+            assert text(page, ".waits").startswith("not simulated from 1,000 ms on"), "where it isn't simulated, as cobench has ended"
+            release(page)
+            assert [each[0].endswith("before") for each in page.value(TOLD)] == [False, False] and page.value(TOLD)[1][2] == "0200"
+            assert page.value("document.querySelector('.waits').hidden && !document.querySelector('.held')")
+            assert page.value(PLACES) == live.before
+
+
+def test_rows_of_the_save_before_are_told_apart():
+    with halved() as live:
+        page = live.page
+        rows = "[...document.querySelectorAll('.frames tbody tr')].map(row => [row.className, row.title, row.innerText.split('\\t').pop().trim()])"
+        page.value("live.run.view(1), live.run.frames.text.value = 'pump', live.run.frames.filter()")
+        page.settle()
+        page.value("live.run.frames.scroller.scrollTop = 98 * 24")
+        page.settle()
+        page.settle()
+        found = page.value(rows)
+        assert ["new", "", "02 00"] in found and ["of-run", "of the save before", "03 00"] in found, found
+        assert {row[2] for row in found if row[0] != "new"} == {"03 00"} and {row[2] for row in found if row[0] == "new"} == {"02 00"}
+        release(page)
+        assert {row[0] for row in page.value(rows)} == {"new"}, "all of them are of now"
+
+
+def test_what_goes_by_the_whole_run_is_held():
+    with halved() as live:
+        page, booted = live.page, "[...document.querySelectorAll('.node')].map(each => each.querySelector('.booted').textContent)"
+        before = ["configured at 20.005 ms", "configured at 20.006 ms"]
+        assert page.value(booted) == before and page.value("document.body.classList.contains('held')")
+        assert float(page.value("getComputedStyle(document.querySelector('.node .booted')).opacity")) < 1
+        later = live.browser.page(1280, 800)
+        later.open(live.address)
+        later.wait(IS_PART)
+        assert later.value(booted) == ["not known yet"] * 2, "a page that comes now has nothing of the save before"
+        release(later)
+        assert later.value(booted) == before
+
+
 def test_frames_are_listed_and_filtered():
     with opened() as live:
         page = live.page
@@ -145,15 +235,14 @@ def test_texts_of_a_script_cannot_script_the_page():
 
 
 def test_nothing_jumps_on_a_save():
-    places = "JSON.stringify(['header', '#tabs', '#parts', '#tab-run', '.timeline .view', '.timeline .corner'].map(each => (({ x, y }) => [x, y])(document.querySelector(each).getBoundingClientRect())))"
     with opened() as live:
         page = live.page
         page.value("live.tabs.choose(3)")
         page.settle()
         live.save(b"set 5 6041 0 7", b"set 5 6041 0 9")
-        before = page.value(places)
+        before = page.value(PLACES)
         live.save(b"set 5 6041 0 9", b"set 5 6041 0 7")
-        assert page.value(places) == before
+        assert page.value(PLACES) == before
         assert page.value("Math.abs(live.run.timeline.scroller.scrollTop)") == 0
 
 

@@ -15,20 +15,10 @@ use Rattle.image_parts.proofs.EachLemmas.{outcome_each, reads_each}
 use Rattle.co_device.specs.Device.{Device}
 use Rattle.image_parts.specs.Contents.{Content, Image}
 use Rattle.image_parts.specs.declared.part.Part.{Part}
-use Rattle.device_agenda.specs.Agenda.{IsAgendaOf}
 use Rattle.device_agenda.specs.LowBytes.{AreDeafBeyond, IsDeafBeyond}
-use Rattle.device_agenda.specs.declared.agenda.Agenda.{Agenda}
 use Rattle.device_agenda.specs.declared.low_bytes.LowBytes.{LowBytes}
 
--- the agenda of devices and others is what `Agenda::and` gives
-abbrev GivesBoth : Agenda → Agenda → Agenda → Type 0
-GivesBoth a b both = (ds es : List Device) → IsAgendaOf a ds → IsAgendaOf b es → IsAgendaOf both (ds ++ es)
-
 -- ---- of one device more
-
-pub one_more : (a b both : Agenda) (ds : List Device) (i : ℕ) (d : Device) → i < length ds → GivesBoth a b both
-    → IsAgendaOf a (take i ds) → IsAgendaOf b (get_or ds i d ∷ []) → IsAgendaOf both (take (i + 1) ds)
-one_more a b both ds i d within gives g h = rw (take_more ds i d within) (gives (take i ds) (get_or ds i d ∷ []) g h)
 
 pub more_deaf : (a b both : LowBytes) (ds : List Device) (i : ℕ) (d : Device) → i < length ds
     → ((ds es : List Device) → AreDeafBeyond a ds → AreDeafBeyond b es → AreDeafBeyond both (ds ++ es))

@@ -1,4 +1,3 @@
-pub mod AgendaLemmas
 pub mod BlockLemmas
 pub mod DueLemmas
 pub mod IdleLemmas
@@ -8,5 +7,6 @@ pub mod SentLemmas
 pub mod StillLemmas
 pub mod EventLemmas
 pub mod OtherLemmas
+pub mod OutlookLemmas
 pub mod StepLemmas
 pub mod TimeLemmas

@@ -1,13 +1,14 @@
 -- Devices from one of which a frame has gone.
 use Rattle.std.proofs.Common.{◌≡◌, ℕ, zero, suc, ◌+◌, ◌*◌, ◌/◌, ◌<◌, ◌≤◌, List, [], ◌∷◌, ◌++◌, length, take, drop, get_or, set}
 use Rattle.std.proofs.Common.{◌-◌, ◌%◌, false, Option, refl, sym, ap, ◌∙◌, subst, arith}
-use Rattle.std.specs.Prelude.{flat_map, remove}
+use Rattle.std.specs.Prelude.{flat_map, min, remove}
 use Rattle.std.specs.List.{AllByRecursion}
-use Rattle.std.proofs.lemmas.List.{drop-set-add, drop-set-lt, get_or-drop, length-drop, length-set, take-set-le}
+use Rattle.std.proofs.lemmas.List.{drop-set-add, drop-set-lt, get_or-drop, length-drop, length-set, length-take, take-set-le}
 use Rattle.std.proofs.lemmas.List.{take_at}
 use Rattle.std.proofs.Math.Seq.{drop-nil, take-set-lt}
 use Rattle.base.specs.Moments.{earliest}
-use Rattle.bus_devices.specs.Blocks.{AreAgendasOf, AreBlocksOf, IsBlockOf, IsDueAsBefore, WereBlocksOf, with_best}
+use Rattle.bus_devices.specs.Blocks.{AreBlocksOf, AreOutlooksOf, IsBlockOf, IsDueAsBefore, WasBlockOf, WereBlocksOf}
+use Rattle.bus_devices.specs.declared.outlook.Outlook.{Outlook}
 use Rattle.bus_devices.specs.declared.block.Block.{Block}
 use Rattle.bus_devices.proofs.SenderLemmas.{IsBest}
 use Rattle.bus_devices.specs.Places.{device_at}
@@ -42,6 +43,13 @@ sent_is_due was now place e =
     }
 
 -- ---- devices
+
+-- a block with the frames that win in it: at the device of a place, and of all
+abbrev pub with_bests : Block → ℕ → Option Contender → Option Contender → Outlook → Block
+with_bests b i own best o = record b {
+  outlook = record b.outlook { best = best };
+  each = set b.each i (record (get_or b.each i o) { best = own });
+}
 
 either_default : (ds : List Device) (i : ℕ) (d e : Device) → i < length ds → get_or ds i d ≡ get_or ds i e
 either_default [] i d e within = absurd (omega (arith, within))
@@ -82,15 +90,48 @@ module _ (now d : Device) where
       → AreDeafBeyond bytes (set ds i now)
   deaf_set bytes ds i h all = all_set (IsDeafBeyond bytes) ds i (h.deaf bytes) all
 
-  -- and so is the agenda of each
-  agendas_set : (plans : List Agenda) (ds : List Device) (i : ℕ) → IsDueAsBefore (get_or ds i d) now
-      → AreAgendasOf plans ds → AreAgendasOf plans (set ds i now)
-  agendas_set plans [] i h all = all
-  agendas_set [] (x ∷ ds) i h all = absurd all
-  agendas_set (a ∷ plans) (x ∷ ds) zero h all = (agenda_set a (x ∷ []) 0 h all.0, all.1)
-  agendas_set (a ∷ plans) (x ∷ ds) (suc i) h all = (all.0, agendas_set plans ds i h all.1)
+  -- what is known of each, with the frame that wins there now
+  outlooks_set : (outlooks : List Outlook) (ds : List Device) (i : ℕ) (own : Option Contender) (o : Outlook)
+      → IsDueAsBefore (get_or ds i d) now → IsBest own (now ∷ []) → AreOutlooksOf outlooks ds
+      → AreOutlooksOf (set outlooks i (record (get_or outlooks i o) { best = own })) (set ds i now)
+  outlooks_set outlooks [] i own o h wins all = tt
+  outlooks_set [] (x ∷ ds) i own o h wins all = absurd all
+  outlooks_set (a ∷ outlooks) (x ∷ ds) zero own o h wins all =
+      (record { agenda = agenda_set a.agenda (x ∷ []) 0 h all.0.agenda; best = wins }, all.1)
+  outlooks_set (a ∷ outlooks) (x ∷ ds) (suc i) own o h wins all =
+      (all.0, outlooks_set outlooks ds i own o h wins all.1)
+
+  -- what is known of a block, with the frames that win in it now
+  block_set : (b : Block) (ds : List Device) (i : ℕ) (own best : Option Contender) (o : Outlook)
+      → IsDueAsBefore (get_or ds i d) now → IsBest own (now ∷ []) → IsBest best (set ds i now) → IsBlockOf b ds
+      → IsBlockOf (with_bests b i own best o) (set ds i now)
+  block_set b ds i own best o h one wins known = record {
+    outlook = record { agenda = agenda_set b.outlook.agenda ds i h known.outlook.agenda; best = wins };
+    low_bytes = deaf_set b.low_bytes ds i h known.low_bytes;
+    each = outlooks_set b.each ds i own o h one known.each;
+  }
 
 -- ---- blocks
+
+get_set : (ds : List Device) (i : ℕ) (d now : Device) → i < length ds → get_or (set ds i now) i d ≡ now
+get_set [] i d now within = absurd (omega (arith, within))
+get_set (x ∷ ds) zero d now within = refl
+get_set (x ∷ ds) (suc i) d now within = get_set ds i d now (omega (arith, within))
+
+module _ (i : ℕ) (b : Block) (ds : List Device) (h : WasBlockOf i b ds) where
+  pub as_many_now : length ds ≡ length h.before
+  as_many_now = ap length h.changed ∙ length-set h.before i h.now
+
+  -- a block anew, where frames have changed at a device of it
+  pub bests_planned : (d : Device) (own best : Option Contender) (o : Outlook) → d ≡ get_or ds i d
+      → IsBest own (d ∷ []) → IsBest best ds → IsBlockOf (with_bests b i own best o) ds
+  bests_planned d own best o is one wins =
+      let now_is : d ≡ h.now = is ∙ ap (λ (xs : List Device). get_or xs i d) h.changed
+      ∙ get_set h.before i d h.now h.within in
+      subst (λ (xs : List Device). IsBlockOf (with_bests b i own best o) xs) (sym h.changed)
+      (block_set h.now (without_power false 0) b h.before i own best o h.still
+      (subst (λ (x : Device). IsBest own (x ∷ [])) now_is one)
+      (subst (λ (xs : List Device). IsBest best xs) h.changed wins) h.of)
 
 get_taken : (n : ℕ) (ds : List Device) (r : ℕ) (d : Device) → r < n → get_or (take n ds) r d ≡ get_or ds r d
 get_taken zero ds r d near = absurd (omega (arith, near))
@@ -104,36 +145,16 @@ drop_later (suc n) m zero ds e = absurd (omega (arith, e))
 drop_later (suc n) m (suc k) [] e = sym (drop-nil {A = Device} m)
 drop_later (suc n) m (suc k) (x ∷ ds) e = drop_later n m k ds (omega (arith, e))
 
-module _ (now d : Device) (best : Option Contender) (b0 : Block) where
-  near_set : (b : Block) (blocks : List Block) (ds : List Device) (r : ℕ) → r < 8 → AreBlocksOf (b ∷ blocks) ds
-      → IsDueAsBefore (get_or ds r d) now → IsBest best (take 8 (set ds r now))
-      → AreBlocksOf (with_best b best ∷ blocks) (set ds r now)
-  near_set b blocks ds r near h still wins = (
-    record {
-      outlook = record {
-        agenda = subst (IsAgendaOf b.outlook.agenda) (sym (take-set-lt 8 ds r now near))
-            (agenda_set now d b.outlook.agenda (take 8 ds) r (rw (get_taken 8 ds r d near) still) h.0.outlook.agenda);
-        best = wins;
-      };
-      low_bytes = subst (AreDeafBeyond b.low_bytes) (sym (take-set-lt 8 ds r now near))
-          (deaf_set now d b.low_bytes (take 8 ds) r (rw (get_taken 8 ds r d near) still) h.0.low_bytes);
-      each = subst (AreAgendasOf b.each) (sym (take-set-lt 8 ds r now near))
-          (agendas_set now d b.each (take 8 ds) r (rw (get_taken 8 ds r d near) still) h.0.each);
-    },
-    subst (AreBlocksOf blocks) (sym (drop-set-lt 8 ds r now near)) h.1,
-  )
-
-  -- the block of a place anew
-  pub sent_at : (k r : ℕ) (blocks : List Block) (ds : List Device) → r < 8 → k < length blocks → AreBlocksOf blocks ds
-      → IsDueAsBefore (get_or ds (8 * k + r) d) now → IsBest best (take 8 (drop (8 * k) (set ds (8 * k + r) now)))
-      → AreBlocksOf (set blocks k (with_best (get_or blocks k b0) best)) (set ds (8 * k + r) now)
-  sent_at k r [] ds near within h still wins = absurd (omega (arith, within))
-  sent_at zero r (b ∷ blocks) ds near within h still wins =
-      let at : r ≡ 8 * 0 + r = omega arith in
-      subst (λ (n : ℕ). AreBlocksOf (with_best b best ∷ blocks) (set ds n now)) at
-      (near_set b blocks ds r near h (subst (λ (n : ℕ). IsDueAsBefore (get_or ds n d) now) (sym at) still)
-      (subst (λ (n : ℕ). IsBest best (take 8 (set ds n now))) (sym at) wins))
-  sent_at (suc k) r (b ∷ blocks) ds near within h still wins =
+-- the block of a place anew, where a device of it is another
+module _ (now : Device) (anew : Block) where
+  set_at : (k r : ℕ) (blocks : List Block) (ds : List Device) → r < 8 → k < length blocks → AreBlocksOf blocks ds
+      → IsBlockOf anew (take 8 (drop (8 * k) (set ds (8 * k + r) now)))
+      → AreBlocksOf (set blocks k anew) (set ds (8 * k + r) now)
+  set_at k r [] ds near within h known = absurd (omega (arith, within))
+  set_at zero r (b ∷ blocks) ds near within h known =
+      let close : 8 * 0 + r < 8 = omega (arith, near) in
+      (known, subst (AreBlocksOf blocks) (sym (drop-set-lt 8 ds (8 * 0 + r) now close)) h.1)
+  set_at (suc k) r (b ∷ blocks) ds near within h known =
       let at : 8 * suc k + r ≡ 8 + (8 * k + r) = omega arith in
       let far : 8 ≤ 8 * suc k + r = omega arith in
       let behind : drop 8 (set ds (8 * suc k + r) now) ≡ set (drop 8 ds) (8 * k + r) now =
@@ -142,10 +163,9 @@ module _ (now d : Device) (best : Option Contender) (b0 : Block) where
       drop_later 8 (8 * k) (8 * suc k) (set ds (8 * suc k + r) now) (omega arith)
       ∙ ap (drop (8 * k)) behind in (
         subst (IsBlockOf b) (sym (take-set-le 8 ds (8 * suc k + r) now far)) h.0,
-        subst (AreBlocksOf (set blocks k (with_best (get_or blocks k b0) best))) (sym behind)
-            (sent_at k r blocks (drop 8 ds) near (omega (arith, within)) h.1
-            (rw (get_or-drop 8 ds (8 * k + r) d, ← at) still)
-            (subst (λ (xs : List Device). IsBest best (take 8 xs)) further wins)),
+        subst (AreBlocksOf (set blocks k anew)) (sym behind)
+            (set_at k r blocks (drop 8 ds) near (omega (arith, within)) h.1
+            (subst (λ (xs : List Device). IsBlockOf anew (take 8 xs)) further known)),
       )
 
 reach : (k : ℕ) (blocks : List Block) (ds : List Device) → AreBlocksOf blocks ds → 8 * k < length ds → k < length blocks
@@ -156,6 +176,15 @@ reach (suc k) (b ∷ blocks) ds h within =
     let left : k < length blocks = reach k blocks (drop 8 ds) h.1 (omega (arith, behind, within)) in
     omega (arith, left)
 
+block_at : (k : ℕ) (blocks : List Block) (ds : List Device) (b0 : Block) → k < length blocks → AreBlocksOf blocks ds
+    → IsBlockOf (get_or blocks k b0) (take 8 (drop (8 * k) ds))
+block_at k [] ds b0 within h = absurd (omega (arith, within))
+block_at zero (b ∷ blocks) ds b0 within h = h.0
+block_at (suc k) (b ∷ blocks) ds b0 within h =
+    subst (λ (xs : List Device). IsBlockOf (get_or blocks k b0) (take 8 xs))
+    (sym (drop_later 8 (8 * k) (8 * suc k) ds (omega arith)))
+    (block_at k blocks (drop 8 ds) b0 (omega (arith, within)) h.1)
+
 module _ (i : ℕ) (blocks : List Block) (ds : List Device) (h : WereBlocksOf i blocks ds) where
   pub as_many : length ds ≡ length h.before
   as_many = ap length h.changed ∙ length-set h.before i h.now
@@ -163,19 +192,46 @@ module _ (i : ℕ) (blocks : List Block) (ds : List Device) (h : WereBlocksOf i 
   pub place_within : i / 8 < length blocks
   place_within = reach (i / 8) blocks h.before h.of (let within = h.within in omega (arith, within))
 
-  pub best_planned : (b0 : Block) (best : Option Contender) → IsBest best (take 8 (drop (i / 8 * 8) ds))
-      → AreBlocksOf (set blocks (i / 8) (with_best (get_or blocks (i / 8) b0) best)) ds
-  best_planned b0 best wins =
+  pub block_planned : (anew : Block) → IsBlockOf anew (take 8 (drop (i / 8 * 8) ds)) → AreBlocksOf (set blocks (i / 8) anew) ds
+  block_planned anew known =
       let at : i ≡ 8 * (i / 8) + i % 8 = omega arith in
       let near : i % 8 < 8 = omega arith in
       let turned : i / 8 * 8 ≡ 8 * (i / 8) = omega arith in
       let now_is : ds ≡ set h.before (8 * (i / 8) + i % 8) h.now =
       h.changed ∙ ap (λ (n : ℕ). set h.before n h.now) at in
-      subst (AreBlocksOf (set blocks (i / 8) (with_best (get_or blocks (i / 8) b0) best))) (sym now_is)
-      (sent_at h.now (without_power false 0) best b0 (i / 8) (i % 8) blocks h.before near place_within h.of
-      (subst (λ (n : ℕ). IsDueAsBefore (get_or h.before n (without_power false 0)) h.now) at h.still)
-      (subst (λ (xs : List Device). IsBest best (take 8 (drop (8 * (i / 8)) xs))) now_is
-      (subst (λ (n : ℕ). IsBest best (take 8 (drop n ds))) turned wins)))
+      subst (AreBlocksOf (set blocks (i / 8) anew)) (sym now_is)
+      (set_at h.now anew (i / 8) (i % 8) blocks h.before near place_within h.of
+      (subst (λ (xs : List Device). IsBlockOf anew (take 8 (drop (8 * (i / 8)) xs))) now_is
+      (subst (λ (n : ℕ). IsBlockOf anew (take 8 (drop n ds))) turned known)))
+
+  -- what was known of the block of the place
+  pub block_was : (b0 : Block) (of_place : List Device) → of_place ≡ take 8 (drop (i / 8 * 8) ds)
+      → WasBlockOf (i % 8) (get_or blocks (i / 8) b0) of_place
+  block_was b0 of_place e =
+      let none : Device = without_power false 0 in
+      let at : i ≡ i / 8 * 8 + i % 8 = omega arith in
+      let near : i % 8 < 8 = omega arith in
+      let turned : 8 * (i / 8) ≡ i / 8 * 8 = omega arith in
+      let behind : List Device = drop (i / 8 * 8) h.before in
+      let now_is : ds ≡ set h.before (i / 8 * 8 + i % 8) h.now =
+      h.changed ∙ ap (λ (n : ℕ). set h.before n h.now) at in
+      let long : length behind ≡ length h.before - i / 8 * 8 = length-drop (i / 8 * 8) h.before in
+      let short : length (take 8 behind) ≡ min 8 (length behind) = length-take 8 behind in
+      record {
+        before = take 8 behind;
+        now = h.now;
+        of = subst (λ (n : ℕ). IsBlockOf (get_or blocks (i / 8) b0) (take 8 (drop n h.before))) turned
+            (block_at (i / 8) blocks h.before b0 place_within h.of);
+        within = (let within = h.within in omega (arith, long, short, near, at, within));
+        still = subst (λ (d : Device). IsDueAsBefore d h.now)
+            (ap (λ (n : ℕ). get_or h.before n none) at
+            ∙ sym (get_or-drop (i / 8 * 8) h.before (i % 8) none)
+            ∙ sym (get_taken 8 behind (i % 8) none near)) h.still;
+        changed = e
+            ∙ ap (λ (xs : List Device). take 8 (drop (i / 8 * 8) xs)) now_is
+            ∙ ap (take 8) (drop-set-add (i / 8 * 8) h.before (i % 8) h.now)
+            ∙ take-set-lt 8 behind (i % 8) h.now near;
+      }
 
 -- what is written back to a list of as many is the list
 pub written_back : (new items : List Block) (n : ℕ) → length new ≡ n → take n (new ++ drop (length new) items) ≡ new

@@ -5,7 +5,6 @@ use Rattle.bus_devices.specs.declared.outlook.Outlook.{Outlook}
 use Rattle.bus_devices.specs.declared.block.Block.{Block}
 use Rattle.bus_devices.specs.Places.{device_at}
 use Rattle.can_frame.specs.Winner.{contenders, IsWinner}
-use Rattle.can_frame.specs.declared.contender.Contender.{Contender}
 use Rattle.co_device.specs.Device.{Device, moments}
 use Rattle.device_agenda.specs.Agenda.{IsAgendaOf, Sleeps}
 use Rattle.device_agenda.specs.Delivered.{Delivered}
@@ -19,25 +18,21 @@ pub record IsOutlookOf (outlook : Outlook) (ds : List Device) : Type 0 where
   pub agenda : IsAgendaOf outlook.agenda ds
   pub best : IsWinner (contenders (device_lists ds)) outlook.best
 
--- agendas of the devices, one of each; there may be more of them
-abbrev pub AreAgendasOf : List Agenda → List Device → Type 0
-AreAgendasOf agendas [] = ⊤
-AreAgendasOf [] (d ∷ ds) = ⊥
-AreAgendasOf (a ∷ agendas) (d ∷ ds) = IsAgendaOf a (d ∷ []) × AreAgendasOf agendas ds
+-- what is known of each of the devices; there may be more of it
+abbrev pub AreOutlooksOf : List Outlook → List Device → Type 0
+AreOutlooksOf outlooks [] = ⊤
+AreOutlooksOf [] (d ∷ ds) = ⊥
+AreOutlooksOf (o ∷ outlooks) (d ∷ ds) = IsOutlookOf o (d ∷ []) × AreOutlooksOf outlooks ds
 
--- what is known of the devices of a block: of all of them, beyond which low bytes they are deaf, and the agenda of each
+-- what is known of the devices of a block: of all of them, beyond which low bytes they are deaf, and of each
 pub record IsBlockOf (block : Block) (ds : List Device) : Type 0 where
   pub outlook : IsOutlookOf block.outlook ds
   pub low_bytes : AreDeafBeyond block.low_bytes ds
-  pub each : AreAgendasOf block.each ds
+  pub each : AreOutlooksOf block.each ds
 
 -- nothing happens to its devices in an instant
 abbrev pub block_sleeps : ℕ → Option Delivered → Block → Bool
 block_sleeps t delivered block = sleeps_on t delivered block.low_bytes block.outlook.agenda
-
--- another frame wins of those that wait at its devices
-abbrev pub with_best : Block → Option Contender → Block
-with_best block best = record block { outlook = record block.outlook { best = best } }
 
 -- blocks of the devices, of eight at a time
 abbrev pub AreBlocksOf : List Block → List Device → Type 0
@@ -50,6 +45,15 @@ pub record IsDueAsBefore (was now : Device) : Type 0 where
   pub asleep : (groups : Groups) → Sleeps groups was → Sleeps groups now
   pub deaf : (bytes : LowBytes) → IsDeafBeyond bytes was → IsDeafBeyond bytes now
   pub silent : was.waiting ≡ [] → now.waiting ≡ []
+
+-- what was known of the devices of a block, where since then the frames have changed that wait at the device at a place
+pub record WasBlockOf (i : ℕ) (block : Block) (ds : List Device) : Type 0 where
+  pub before : List Device
+  pub now : Device
+  pub of : IsBlockOf block before
+  pub within : i < length before
+  pub still : IsDueAsBefore (device_at before i) now
+  pub changed : ds ≡ slice_set before i now
 
 -- blocks of the devices as they were, where since then the frames have changed that wait at the device at a place
 pub record WereBlocksOf (i : ℕ) (blocks : List Block) (ds : List Device) : Type 0 where

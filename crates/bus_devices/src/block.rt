@@ -1,23 +1,23 @@
 //! What a few devices of a bus do, and what is known of them.
 
-ghost use Rattle.std.specs.Prelude.{◌≡◌, ◌<◌, ◌≤◌, ◌∷◌, [], false, length, option_copied, IfOk, IfSome, IsTrue, OnOk};
+ghost use Rattle.std.specs.Prelude.{◌≡◌, ◌<◌, ◌≤◌, ◌∷◌, [], List, false, length, option_copied, IfOk, IfSome, IsTrue, OnOk};
 ghost use Rattle.image_parts.specs.Record.{GoesBy, Lasts};
-ghost use Rattle.bus_devices.specs.Blocks.{AreAgendasOf, IsBlockOf, block_sleeps};
+ghost use Rattle.bus_devices.specs.Blocks.{AreOutlooksOf, IsBlockOf, IsOutlookOf};
 ghost use Rattle.bus_devices.specs.Numbers.{device_of as first_of, values_of as first_values_of};
 ghost use Rattle.bus_devices.specs.Senders.{contends_with as contends, device_lists, is_contender, sender_place};
 ghost use Rattle.image_parts.specs.Each.{each};
 ghost use Rattle.can_frame.specs.Winner.{contenders, IsWinner};
 ghost use Rattle.base.specs.Moments.{earliest};
-ghost use Rattle.co_device.specs.Device.{moments};
+ghost use Rattle.co_device.specs.Device.{Device, moments};
 ghost use Rattle.std.specs.List.{flat_map};
-ghost use Rattle.device_agenda.specs.Agenda.{at_instant, IsAgendaOf};
-ghost use Rattle.device_agenda.specs.LowBytes.{AreDeafBeyond};
+ghost use Rattle.device_agenda.specs.Agenda.{at_instant};
+ghost use Rattle.device_agenda.specs.LowBytes.{AreDeafBeyond, IsDeafBeyond};
 
-use crate::outlook::Outlook;
+use crate::outlook::{Outlook, lower};
 use base::earlier;
 use can_frame::Contender;
 use co_dict::Dict;
-use device_agenda::{Agenda, Delivery, LowBytes, ScheduledDevice};
+use device_agenda::{Delivery, LowBytes, ScheduledDevice};
 use device_objects::Shapes;
 use image_parts::END;
 use std::alloc::AllocError;
@@ -25,16 +25,15 @@ use std::alloc::AllocError;
 /// The number of devices of a block; the last one may have fewer.
 pub(crate) const BLOCK: usize = 8;
 
-/// What is known of the devices of a block: of all of them, and when each has to run, so that those that sleep
-/// aren't touched.
+/// What is known of the devices of a block, of all of them and of each, so that those that sleep aren't touched.
 #[derive(Clone, Copy, Debug)]
 pub(crate) struct Block {
     /// What is known of all of them.
     pub outlook: Outlook,
-    /// The low bytes of the identifiers of frames that may be something to one of them.
+    /// The low bytes of frames that may be something to one of them: more as they run, till blocks are planned anew.
     pub low_bytes: LowBytes,
-    /// When each has to run, in their order; what stands behind those of the devices is of none.
-    pub each: [Agenda; BLOCK],
+    /// What is known of each, in their order; what stands behind those of the devices is of none.
+    pub each: [Outlook; BLOCK],
 }
 
 impl Block {
@@ -43,32 +42,37 @@ impl Block {
         requires { length devices.now ≤ 8 }
         ensures { IsBlockOf result devices.now }
     {
+        let each = outlooks_of(devices);
         Block {
-            outlook: Outlook::of(devices),
+            outlook: outlook_of(&each, devices),
             low_bytes: low_bytes_of(devices),
-            each: agendas_of(devices),
+            each,
         }
-    }
-
-    /// Whether nothing happens to its devices at the moment t, at which this is delivered.
-    pub(crate) fn sleeps(&self, t: u64, delivery: &Option<Delivery>) -> bool
-        ensures sleeps { result ≡ block_sleeps t delivery.now self.now }
-        ensures bound { IsTrue result → IfSome delivery.now (λ d. d.frame.id < 0x800) }
-    {
-        self.outlook.agenda.sleeps_on(&self.low_bytes, t, delivery)
     }
 }
 
-/// The agendas of at most eight devices, in their order.
-fn agendas_of(devices: &[ScheduledDevice]) -> [Agenda; BLOCK]
+/// What is known of each of at most eight devices, in their order.
+fn outlooks_of(devices: &[ScheduledDevice]) -> [Outlook; BLOCK]
     requires { length devices.now ≤ 8 }
-    ensures { AreAgendasOf result devices.now }
+    ensures { AreOutlooksOf result devices.now }
 {
-    let mut agendas = [Agenda::none(); BLOCK];
+    let mut outlooks = [Outlook::none(); BLOCK];
     for (place, device) in devices.iter().enumerate() {
-        agendas[place] = device.agenda();
+        outlooks[place] = Outlook::of(device);
     }
-    agendas
+    outlooks
+}
+
+/// What is known of devices, by what is known of each.
+pub(crate) fn outlook_of(each: &[Outlook], devices: &[ScheduledDevice]) -> Outlook
+    requires { AreOutlooksOf each.now devices.now }
+    ensures { IsOutlookOf result devices.now }
+{
+    let mut all = Outlook::none();
+    for place in 0..devices.len() {
+        all = all.and(&each[place]);
+    }
+    all
 }
 
 /// The low bytes of the identifiers of frames that may be something to one of the devices. Walks them.
@@ -82,50 +86,53 @@ fn low_bytes_of(devices: &[ScheduledDevice]) -> LowBytes
     low_bytes
 }
 
-/// The agenda of devices.
-pub(crate) fn agenda_of(devices: &[ScheduledDevice]) -> Agenda
-    ensures { IsAgendaOf result devices.now }
-{
-    let mut agenda = Agenda::none();
-    for device in devices {
-        agenda = agenda.and(device.agenda());
-    }
-    agenda
-}
-
-/// Runs a device of this agenda, if it has to run at the moment t, at which this is delivered, and says whether it
-/// had to. It isn't touched where its agenda says that it sleeps.
+/// Runs a device of which this is known, if it has to run at the moment t, at which this is delivered, and says
+/// whether it had to. It isn't touched where it is known that it sleeps; where it ran, what is known of it is worked
+/// out anew, and its low bytes come to those of its block.
 fn run_one<P: Shapes>(
     device: &mut ScheduledDevice,
-    agenda: &Agenda,
+    outlook: &mut Outlook,
+    low_bytes: &mut LowBytes,
     t: u64,
     delivery: &Option<Delivery>,
     shapes: &mut P,
 ) -> Result<bool, AllocError>
     requires soon { t < END }
-    requires agenda { IsAgendaOf agenda.now (device.old ∷ []) }
+    requires outlook { IsOutlookOf outlook.old (device.old ∷ []) }
+    ensures outlook { OnOk result (IsOutlookOf outlook.new (device.new ∷ [])) }
+    ensures deaf { OnOk result ((ds : List Device) → AreDeafBeyond low_bytes.old ds → AreDeafBeyond low_bytes.new ds) }
+    ensures own { OnOk result (IsDeafBeyond low_bytes.old device.old → IsDeafBeyond low_bytes.new device.new) }
     ensures ran { OnOk result (GoesBy (at_instant t delivery.now device.old) device.new
         P.seen P.asks shapes.old shapes.new) }
     ensures lasts { Lasts (P.seen shapes.old) (P.seen shapes.new) }
     ensures still { IfOk result (λ ran. ran ≡ false → device.new ≡ device.old) }
 {
-    if agenda.sleeps_through(t, delivery) {
+    if outlook.agenda.sleeps_through(t, delivery) {
         return Ok(false);
     }
-    device.run_instant(t, delivery, shapes)
+    let ran = device.run_instant(t, delivery, shapes)?;
+    if ran {
+        *outlook = Outlook::of(device);
+        *low_bytes = low_bytes.and(&device.low_bytes());
+    }
+    Ok(ran)
 }
 
-/// Runs each device that has to run at the moment t, at which this is delivered, and says whether one had to. The
-/// agendas are theirs.
+/// Runs each device that has to run at the moment t, at which this is delivered, and says whether one had to. What is
+/// known of each, and their low bytes, become those of behind it.
 pub(crate) fn run_each<P: Shapes>(
     devices: &mut [ScheduledDevice],
-    agendas: &[Agenda],
+    outlooks: &mut [Outlook],
+    low_bytes: &mut LowBytes,
     t: u64,
     delivery: &Option<Delivery>,
     shapes: &mut P,
 ) -> Result<bool, AllocError>
     requires soon { t < END }
-    requires agendas { AreAgendasOf agendas.now devices.old }
+    requires outlooks { AreOutlooksOf outlooks.old devices.old }
+    requires deaf { AreDeafBeyond low_bytes.old devices.old }
+    ensures outlooks { OnOk result (AreOutlooksOf outlooks.new devices.new) }
+    ensures deaf { OnOk result (AreDeafBeyond low_bytes.new devices.new) }
     ensures ran { OnOk result (GoesBy (each (at_instant t delivery.now) devices.old) devices.new
         P.seen P.asks shapes.old shapes.new) }
     ensures lasts { Lasts (P.seen shapes.old) (P.seen shapes.new) }
@@ -133,7 +140,7 @@ pub(crate) fn run_each<P: Shapes>(
 {
     let mut ran = false;
     for (place, device) in devices.iter_mut().enumerate() {
-        let had_to = run_one(device, &agendas[place], t, delivery, shapes)?;
+        let had_to = run_one(device, &mut outlooks[place], low_bytes, t, delivery, shapes)?;
         ran |= had_to;
     }
     Ok(ran)
@@ -156,9 +163,7 @@ pub(crate) fn winner_of(devices: &[ScheduledDevice]) -> Option<Contender>
 {
     let mut best = None;
     for device in devices {
-        if let Some(contender) = device.contender() {
-            best = Contender::lower(best, Some(contender));
-        }
+        best = lower(best, &device.contender());
     }
     best
 }

@@ -3,15 +3,15 @@
 ghost use Rattle.std.specs.Prelude.{◌≡◌, ◌<◌, ◌≤◌, ◌*◌, false, true, List, length, min, take, IfOk, IfSome, OnOk};
 ghost use Rattle.std.specs.List.{AllByRecursion};
 ghost use Rattle.image_parts.specs.Record.{GoesBy, Lasts};
-ghost use Rattle.bus_devices.specs.Blocks.{AreBlocksOf, IsBlockOf, IsOutlookOf, WereBlocksOf, block_sleeps};
+ghost use Rattle.bus_devices.specs.Blocks.{AreBlocksOf, IsBlockOf, IsOutlookOf, WasBlockOf, WereBlocksOf, block_sleeps};
 ghost use Rattle.bus_devices.specs.Senders.{device_lists, may_wait_at, sender_place as place_of};
 ghost use Rattle.image_parts.specs.Each.{each};
 ghost use Rattle.can_frame.specs.Winner.{contenders, IsWinner};
 ghost use Rattle.co_device.specs.Device.{Device};
-ghost use Rattle.device_agenda.specs.Agenda.{at_instant, IsAgendaOf};
+ghost use Rattle.device_agenda.specs.Agenda.{at_instant};
 
-use crate::block::{BLOCK, Block, place_of_sender, run_each, winner_of};
-use crate::outlook::Outlook;
+use crate::block::{BLOCK, Block, outlook_of, place_of_sender, run_each, winner_of};
+use crate::outlook::{Outlook, lower};
 use can_frame::Contender;
 use device_agenda::{Delivery, ScheduledDevice};
 use device_objects::Shapes;
@@ -33,15 +33,14 @@ pub(crate) fn plan(blocks: &mut Vec<Block>, devices: &[ScheduledDevice]) -> Resu
     let mut rest = devices;
     'planning: while !rest.is_empty() {
         let (devices, others) = rest.split_at(first_block(rest.len()));
-        let block = Block::of(devices);
-        blocks.push(block)?;
+        blocks.push(Block::of(devices))?;
         rest = others;
     }
     Ok(())
 }
 
-/// Runs those of the devices of a block that have to run, and where one had to, works out anew what is known of
-/// them. Says whether one had to.
+/// Runs those of the devices of a block that have to run, and where one had to, puts together anew what is known of
+/// all of them. Says whether one had to.
 fn run_block<P: Shapes>(
     block: &mut Block,
     devices: &mut [ScheduledDevice],
@@ -58,9 +57,16 @@ fn run_block<P: Shapes>(
     ensures lasts { Lasts (P.seen shapes.old) (P.seen shapes.new) }
     ensures still { IfOk result (λ ran. ran ≡ false → devices.new ≡ devices.old) }
 {
-    let ran = run_each(devices, &block.each, t, delivery, shapes)?;
+    let ran = run_each(
+        devices,
+        &mut block.each,
+        &mut block.low_bytes,
+        t,
+        delivery,
+        shapes,
+    )?;
     if ran {
-        *block = Block::of(devices);
+        block.outlook = outlook_of(&block.each, devices);
     }
     Ok(ran)
 }
@@ -72,7 +78,9 @@ fn asleep(blocks: &[Block], t: u64, delivery: &Option<Delivery>) -> usize
     ensures bound { 0 < result → IfSome delivery.now (λ d. d.frame.id < 0x800) }
 {
     for i in 0..blocks.len() {
-        if !blocks[i].sleeps(t, delivery) {
+        let block = &blocks[i];
+        let agenda = &block.outlook.agenda;
+        if !agenda.sleeps_on(&block.low_bytes, t, delivery) {
             return i;
         }
     }
@@ -120,8 +128,17 @@ pub(crate) fn run_blocks<P: Shapes>(
     run_blocks(others, behind, t, delivery, shapes, before | ran)
 }
 
-/// Works out anew which frame wins in the block of a place, after the frames have changed that wait at the device
-/// there. Walks the devices of the block.
+/// Works out anew which frames win, after the frames have changed that wait at the device of a place. Walks the block.
+fn plan_best_of(block: &mut Block, devices: &[ScheduledDevice], i: usize)
+    requires was { WasBlockOf i block.old devices.now }
+    requires few { length devices.now ≤ 8 }
+    ensures { IsBlockOf block.new devices.now }
+{
+    block.each[i].best = devices[i].contender();
+    block.outlook.best = winner_of(devices);
+}
+
+/// The same of the block of the device at a place among all.
 pub(crate) fn plan_best(blocks: &mut [Block], devices: &[ScheduledDevice], i: usize)
     requires { WereBlocksOf i blocks.old devices.now }
     ensures { AreBlocksOf blocks.new devices.now }
@@ -129,17 +146,17 @@ pub(crate) fn plan_best(blocks: &mut [Block], devices: &[ScheduledDevice], i: us
     let place = i / BLOCK;
     let (_before, rest) = devices.split_at(place * BLOCK);
     let (block, _behind) = rest.split_at(first_block(rest.len()));
-    blocks[place].outlook.best = winner_of(block);
+    plan_best_of(&mut blocks[place], block, i % BLOCK);
 }
 
 /// The least frame that waits at the devices of all blocks. Walks the blocks.
-fn best_of(blocks: &[Block]) -> Option<Contender>
+pub(crate) fn best_of(blocks: &[Block]) -> Option<Contender>
     ensures { (devices : List Device) → AreBlocksOf blocks.now devices
         → IsWinner (contenders (device_lists devices)) result }
 {
     let mut best = None;
     for block in blocks {
-        best = Contender::lower(best, block.outlook.best);
+        best = lower(best, &block.outlook.best);
     }
     best
 }
@@ -153,17 +170,6 @@ pub(crate) fn all_of(blocks: &[Block]) -> Outlook
         all = all.and(&block.outlook);
     }
     all
-}
-
-/// What is known of the devices of all blocks behind a send, of which the agenda is as it was. Walks the blocks.
-pub(crate) fn all_sent(all: Outlook, blocks: &[Block]) -> Outlook
-    ensures { (devices : List Device) → AreBlocksOf blocks.now devices → IsAgendaOf all.agenda devices
-        → IsOutlookOf result devices }
-{
-    Outlook {
-        agenda: all.agenda,
-        best: best_of(blocks),
-    }
 }
 
 /// Whether a frame can be one of those waiting at devices, of which this is the least.

@@ -16,7 +16,7 @@ ghost use Rattle.device_agenda.specs.Agenda.{at_instant};
 
 use crate::apart::Apart;
 use crate::block::{Block, first_due, place_of_sender, values_of, winner_of};
-use crate::blocks::{all_of, all_sent, plan, plan_best, run_blocks, sender_place};
+use crate::blocks::{all_of, best_of, plan, plan_best, run_blocks, sender_place};
 use crate::lists::{copy_all, differ_at, tell_apart};
 use crate::outlook::Outlook;
 use can_frame::{Contender, Waiting};
@@ -115,8 +115,7 @@ impl Devices {
     {
         match self.tell_apart(other) {
             Apart::No => true,
-            Apart::At(_place) => false,
-            Apart::Elsewhere => false,
+            Apart::At(_) | Apart::Elsewhere => false,
         }
     }
 
@@ -224,7 +223,7 @@ impl Devices {
         let sent = self.devices[i].send(place)?;
         if known {
             plan_best(self.blocks.as_mut_slice(), &self.devices, i);
-            self.all = all_sent(self.all, &self.blocks);
+            self.all.best = best_of(&self.blocks);
             self.known = true;
         }
         Ok(sent)

@@ -1,10 +1,10 @@
 //! What is known of devices in a row.
 
-ghost use Rattle.std.specs.Prelude.{◌≡◌, ◌++◌, [], List};
+ghost use Rattle.std.specs.Prelude.{◌≡◌, ◌++◌, ◌∷◌, [], List};
 ghost use Rattle.bus_devices.specs.Blocks.{IsOutlookOf};
+ghost use Rattle.can_frame.specs.Winner.{lower as lower_of};
 ghost use Rattle.co_device.specs.Device.{Device};
 
-use crate::block::{agenda_of, winner_of};
 use can_frame::Contender;
 use device_agenda::{Agenda, ScheduledDevice};
 
@@ -15,6 +15,17 @@ pub(crate) struct Outlook {
     pub agenda: Agenda,
     /// The least frame that waits at one of them, if one waits.
     pub best: Option<Contender>,
+}
+
+/// The one that wins of two contenders, as `Contender::lower`: mostly the other isn't there.
+#[tactic(auto, using(crate::proofs::SenderLemmas::lower_none))]
+pub(crate) fn lower(one: Option<Contender>, other: &Option<Contender>) -> Option<Contender>
+    ensures { result ≡ lower_of one other.now }
+{
+    match other {
+        None => one,
+        Some(_) => Contender::lower(one, *other),
+    }
 }
 
 impl Outlook {
@@ -28,13 +39,13 @@ impl Outlook {
         }
     }
 
-    /// That of devices. Walks them.
-    pub(crate) fn of(devices: &[ScheduledDevice]) -> Outlook
-        ensures { IsOutlookOf result devices.now }
+    /// That of a device.
+    pub(crate) fn of(device: &ScheduledDevice) -> Outlook
+        ensures { IsOutlookOf result (device.now ∷ []) }
     {
         Outlook {
-            agenda: agenda_of(devices),
-            best: winner_of(devices),
+            agenda: device.agenda(),
+            best: device.contender(),
         }
     }
 
@@ -44,7 +55,7 @@ impl Outlook {
     {
         Outlook {
             agenda: self.agenda.and(other.agenda),
-            best: Contender::lower(self.best, other.best),
+            best: lower(self.best, &other.best),
         }
     }
 }

@@ -87,8 +87,9 @@ impl TpdoState {
         }
     }
 
-    /// Looks at it at the moment t, and answers its frame where it is sent.
-    #[tactic(auto, using(crate::proofs::PackedLemmas::few), unfolding(crate::specs::Tpdos::bytes_now, crate::specs::Tpdos::turn))]
+    /// Looks at it at the moment t, and answers its frame where it is sent. Its values are packed only where it isn't
+    /// quiet.
+    #[tactic(auto, using(crate::proofs::PackedLemmas::few, crate::proofs::QuietLemmas::quiet_turn), unfolding(crate::specs::Tpdos::bytes_now, crate::specs::Tpdos::turn))]
     fn look(&mut self, t: u64, seen: Option<SyncSeen>, dict: &Dict) -> Option<Frame>
         requires { t < 2 ^ 63 }
         ensures state { self.new ≡ tpdo_after_turn t seen dict.now self.old }
@@ -98,12 +99,16 @@ impl TpdoState {
         let Some(configuration) = &self.configuration else {
             return None;
         };
-        let (frame, count) = pack(dict, configuration.mapping.entries());
-        let bytes = &frame[..count];
+        let communication = configuration.communication;
         if self
             .remembered
-            .look(configuration.communication, seen, t, bytes)
+            .is_quiet(communication.transmission_type, seen, t)
         {
+            return None;
+        }
+        let (frame, count) = pack(dict, configuration.mapping.entries());
+        let bytes = &frame[..count];
+        if self.remembered.look(communication, seen, t, bytes) {
             Some(Frame::of(configuration.identifier.number(), bytes))
         } else {
             None

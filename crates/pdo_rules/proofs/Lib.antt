@@ -1,5 +1,6 @@
 pub mod MappingLemmas
 pub mod PayloadLemmas
+pub mod QuietLemmas
 pub mod RunLemmas
 pub mod StartLemmas
 pub mod TpdoLemmas

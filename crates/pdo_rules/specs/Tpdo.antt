@@ -1,6 +1,6 @@
 -- When a TPDO is sent (CiA 301). All moments are absolute, and all times are in microseconds.
 use Rattle.std.specs.Prelude.{ℕ, ◌+◌, nat_le, ◌==◌, not, ◌&&◌, ◌||◌, Bool, true, false, List, Option, Some}
-use Rattle.std.specs.Prelude.{None, is_some, if◌then◌else◌}
+use Rattle.std.specs.Prelude.{None, is_none, is_some, if◌then◌else◌}
 use Rattle.std.specs.Option.{option_map_or}
 use Rattle.std.specs.Str.{bytes_eq}
 use Rattle.base.specs.Moments.{has_come, is_ahead, moment_after}
@@ -99,3 +99,11 @@ turn_by_type (Some Acyclic) c seen t bytes r = acyclic_turn seen bytes r
 turn_by_type (Some (Cyclic n)) c seen t bytes r = cyclic_turn n c.sync_start seen bytes r
 turn_by_type (Some EventDriven) c seen t bytes r = event_turn c t bytes r
 turn_by_type other c seen t bytes r = turn_without_frame r
+
+-- QUIET at the moment t, at a SYNC or at none: a synchronous one without a SYNC, an event-driven one that is inhibited, one
+-- of another type or of none
+unfoldable pub is_quiet : Option TransmissionType → Option SyncSeen → ℕ → Remembered → Bool
+is_quiet (Some Acyclic) seen t r = is_none seen
+is_quiet (Some (Cyclic n)) seen t r = is_none seen
+is_quiet (Some EventDriven) seen t r = is_ahead t r.inhibit
+is_quiet other seen t r = true

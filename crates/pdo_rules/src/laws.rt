@@ -9,7 +9,7 @@ ghost use Rattle.co_dict.specs.Values.{Values};
 ghost use Rattle.pdo_rules.specs.declared.communication.Communication.{Communication as Parameters};
 ghost use Rattle.pdo_rules.specs.Runs.{HaveNoStart, each_nth, sent_at};
 ghost use Rattle.pdo_rules.specs.Tpdo.{Remembered, awaits_start, counted_turn, without_past_inhibit, turn_by_type};
-ghost use Rattle.pdo_rules.specs.Tpdo.{turn_without_frame};
+ghost use Rattle.pdo_rules.specs.Tpdo.{is_quiet, turn_without_frame};
 ghost use Rattle.pdo_rules.specs.declared.sync_seen.SyncSeen.{SyncSeen as Seen};
 ghost use Rattle.pdo_rules.specs.Working.{count_of, identifier_of, is_pdo, works};
 ghost use Rattle.cia301.specs.PdoObjects.{mapping_object};
@@ -138,4 +138,12 @@ pub fn from_its_start_a_cyclic_tpdo_is_sent_at_each_nth_sync()
         ≡ replicate (length before) false ++ each_nth n (length (first ∷ after)) }
     ensures without_value { (n : ℕ) (syncs : List (Seen × List ℕ)) (r : Remembered) → 0 < n → r.syncs ≡ 0
         → sent_at n 0 syncs r ≡ each_nth n (length syncs) }
+{}
+
+/// A TPDO that is quiet isn't sent, whatever bytes it has, and remembers what it did.
+#[tactic(auto, using(crate::proofs::QuietLemmas::quiet))]
+pub fn a_quiet_tpdo_is_not_sent()
+    ensures { (transmission : Option TransmissionType) (c : Parameters) (seen : Option Seen) (t : ℕ) (bytes : List ℕ)
+        (r : Remembered) → is_quiet transmission seen t r ≡ true
+        → turn_by_type transmission c seen t bytes r ≡ turn_without_frame r }
 {}

@@ -3,7 +3,7 @@
 ghost use Rattle.std.specs.Prelude.{◌≡◌, ◌↔◌, ◌≤◌, ◌<◌, ◌^◌, length, IsTrue};
 ghost use Rattle.pdo_rules.specs.Tpdo.{acyclic_turn, awaits_start, counted_turn, cyclic_turn, event_turn};
 ghost use Rattle.pdo_rules.specs.Tpdo.{synced_turn, turn_by_type};
-ghost use Rattle.pdo_rules.specs.Tpdo.{differs, event_moment, remembering_nothing as nothing_remembered};
+ghost use Rattle.pdo_rules.specs.Tpdo.{differs, event_moment, is_quiet, remembering_nothing as nothing_remembered};
 ghost use Rattle.pdo_rules.specs.Tpdo.{without_past_inhibit};
 
 use crate::communication::Communication;
@@ -207,6 +207,25 @@ impl Tpdo {
         self.inhibit = moment_after(t, u64::from(communication.inhibit_time));
         self.event = event_moment(t, communication);
         true
+    }
+
+    /// Whether it is quiet at the moment t: it isn't sent, whatever bytes it has, and remembers what it does. A
+    /// synchronous one is without a SYNC, an event-driven one while its inhibit moment is ahead, and one of another
+    /// type, or of none, always.
+    #[tactic(auto, unfolding(crate::specs::Tpdo::is_quiet))]
+    pub fn is_quiet(
+        &self,
+        transmission: Option<TransmissionType>,
+        seen: Option<SyncSeen>,
+        t: u64,
+    ) -> bool
+        ensures { result ≡ is_quiet transmission seen t self.now }
+    {
+        match transmission {
+            Some(TransmissionType::Acyclic | TransmissionType::Cyclic(_)) => seen.is_none(),
+            Some(TransmissionType::EventDriven) => is_ahead(t, self.inhibit),
+            Some(TransmissionType::Reserved | TransmissionType::OnRequest) | None => true,
+        }
     }
 
     /// Looks at a TPDO that works, at the moment t in microseconds and with the bytes that it has then,

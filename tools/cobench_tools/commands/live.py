@@ -17,7 +17,8 @@ AFTER = f"""Starts a cobench that stays open, and serves a page on this machine 
 SCRIPT or a file that it takes in is saved, the edits between the two projects go to
 the open cobench, and the page shows what it answers: what is wrong, each node with
 its files, the messages, the run as a timeline and as a table, and what the save
-cost. What the save has changed is marked. Ctrl-C ends it.
+cost. What the save has changed is marked. A long run comes in parts, its first
+second first: what lies behind is pale until it is simulated. Ctrl-C ends it.
 
 {session.PROGRAM} Status: 0 once it is ended, 2 where SCRIPT isn't there, cobench
 can't be run, or the port is in use.

@@ -16,6 +16,7 @@ OF_A_MESSAGE = (b"start", b"source", b"sink")
 # Edits by which no file of a node can become another, and those of the files of one node, which they name (docs/rules/commands.md).
 OF_NO_FILE, OF_ONE_NODE = (b"event", b"drop-event", b"horizon"), (b"param", b"unparam")
 MOST_KEYS = 1 << 16     # so many lines are known at most
+NEVER = 1 << 32         # a moment behind all horizons
 
 
 def items_of(lines):
@@ -55,6 +56,23 @@ def nodes_of_files(made):
     words = [words_of(edit) for edit in made]
     words = [each for each in words if each[0] not in OF_NO_FILE]
     return {each[1] for each in words} if all(each[0] in OF_ONE_NODE for each in words) else None
+
+
+def moment_of(text):
+    """The first moment of a run that a command of an event or of the horizon says something of."""
+    words = words_of(text)
+    return int(words[1] if words[0] == b"horizon" else words[2])
+
+
+def first_moment(made, old, new, has_other_files):
+    """The first moment of a run that edits from one project to another can change: 0 but where all are of events, of the
+    horizon, and of parameters by which no file is another, as those change the run by the files alone.
+    """
+    words = [words_of(edit) for edit in made]
+    if has_other_files or nodes_of_files(made) is None:
+        return 0
+    keys = [(b"horizon",) if each[0] == b"horizon" else (b"event", each[1]) for each in words if each[0] in OF_NO_FILE]
+    return min((moment_of(project[key]) for key in keys for project in (old, new) if key in project), default=NEVER)
 
 
 class Way:

@@ -177,13 +177,25 @@ class Follower:
             self.tell(answers, items)
             self.say("working", "the script was saved", "trace")
             items = {}
+        while self.programs.parts:
+            self.answer_part(save, answers)
         with save.step("trace"):
             text = self.programs.opened.take_text()
         with save.step("picture"):
-            self.drawn.update(self.draw(save, text, answered.project, answers.sheets))
+            self.draw(save, text, answers)
             items.update(answers.booted(answered, evidence, self.run))
         self.tell(answers, {**items, **self.drawn}, lambda: self.ended(save, answered))
         self.is_first, self.drawn = False, {}
+
+    def answer_part(self, save, answers):
+        """Puts the run into the feed as far as it is there, unless all of it is by then. What goes by the whole run stays
+        as it was: a boot that comes late isn't missing."""
+        with save.step("part"):
+            horizon, text = self.programs.take_part()
+        with save.step("its picture"):
+            self.draw(save, text, answers, horizon)
+        if self.programs.parts or not self.programs.opened.is_answering():
+            self.feed.put(self.drawn)
 
     def tell(self, answers, items, ended=dict):
         """Puts into the feed what comes of answers, once the files have stood still, and what `ended` gives then."""
@@ -192,14 +204,14 @@ class Follower:
         self.answers = answers
         self.feed.put({**items, **ended()})
 
-    def draw(self, save, text, project, sheets):
-        """The items of the run: what is other than before."""
-        changed = self.run.take(text, project, sheets)
-        save.windows, save.of_windows, save.lines = len(changed), len(self.run.windows), text.count(b"\n")
-        items = {f"window/{number}": self.run.content(number) for number in changed}
-        items.update(self.run.new_sorts())
-        items["run"] = self.run.about()
-        return items
+    def draw(self, save, text, answers, known=None):
+        """Draws the run, whole or to a moment: the items that are other than before."""
+        changed = self.run.take(text, self.answered.project, answers.sheets, known)
+        save.changed.update(changed)
+        save.of_windows, save.lines = len(self.run.windows), text.count(b"\n")
+        self.drawn.update({f"window/{number}": self.run.content(number) for number in changed})
+        self.drawn.update(self.run.new_sorts())
+        self.drawn["run"] = self.run.about()
 
     def ended(self, save, answered):
         """The items by which a save is over: what it cost goes into the ledger."""

@@ -14,13 +14,14 @@ class Save:
     why     why it was started afresh
     steps   what was done, each with its milliseconds
     doing   what is being done
+    changed the numbers of the windows of the run that became others
     saved   when the last of the files was written, in milliseconds of the clock, 0 for none
     """
 
     def __init__(self, number, files):
         self.number, self.files, self.edits, self.why, self.steps, self.doing = number, files, None, "", [], ""
         self.clock, self._start = time.strftime("%H:%M:%S"), time.monotonic()
-        self.windows = self.of_windows = self.lines = self.saved = 0
+        self.changed, self.of_windows, self.lines, self.saved = set(), 0, 0, 0
 
     @contextlib.contextmanager
     def step(self, what):
@@ -34,7 +35,7 @@ class Save:
         """The save, as the page has it."""
         edits = None if self.edits is None else [shortened(edit) for edit in self.edits[:MOST_EDITS]]
         return {"save": self.number, "clock": self.clock, "files": self.files, "why": self.why, "steps": self.steps,
-                "edits": edits, "count": len(self.edits or ()), "windows": self.windows, "ofWindows": self.of_windows,
+                "edits": edits, "count": len(self.edits or ()), "windows": len(self.changed), "ofWindows": self.of_windows,
                 "lines": self.lines, "saved": self.saved, "all": milliseconds(self._start)}
 
 

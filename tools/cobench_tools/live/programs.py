@@ -3,8 +3,11 @@ import contextlib
 import functools
 
 from .. import tool
-from .edits import edits, first_project, items_of, nodes_of_files
+from .edits import NEVER, edits, first_moment, first_project, items_of, moment_of, nodes_of_files
 from .opened import Ended, Opened, lines_of, work_in_words
+from .run import WINDOW
+
+PARTS = 100_000, 1_000_000      # microseconds of the parts of a run that are asked for before the whole
 
 
 class Made:
@@ -15,6 +18,9 @@ class Made:
 
     def nodes(self):
         return [key[1] for key in self.items if key[0] == b"node"]
+
+    def horizon(self):
+        return moment_of(self.items[b"horizon",])
 
 
 class Reply:
@@ -33,6 +39,16 @@ def queries_of(nodes):
     return [b"diag"] + [name + b" " + node for node in nodes for name in (b"cdcf", b"dcf")]
 
 
+def parts_of(first, horizon):
+    """The horizons to which a long run is asked for before it is asked for whole: a tenth of a second, which is there at
+    once, and a second behind the first moment that an edit can change, which is where one looks for what it has changed.
+    There are none where two seconds don't come behind that moment: cobench keeps the windows before it, so that little is
+    simulated, and parts would only cost their text.
+    """
+    start = first // WINDOW * WINDOW
+    return [start + part - 1 for part in PARTS] if start + 2 * PARTS[-1] <= horizon else []
+
+
 class Programs:
     """The cobenches that these words start.
 
@@ -40,12 +56,14 @@ class Programs:
     work     what the last one that was ended says it has made anew, in words
     is_long  whether the run takes long enough that the replies before it are waited for apart: what a cobench
              reads at once it answers at once
+    parts    the horizons to which the run is still to be taken, before all of it
     """
 
     def __init__(self, words):
         self.words, self.opened, self.made, self.work, self.is_long = words, None, None, "", False
         self._spare, self._past = None, []
-        self._replies, self._current, self._asked, self._behind = {}, set(), [], []
+        self._replies, self._current, self._asked = {}, set(), []
+        self._edits, self._before, self._runs, self.parts = [], None, [], []
 
     # The one apart.
 
@@ -72,7 +90,7 @@ class Programs:
     def start(self, new):
         """Starts it afresh, with a project."""
         self.close()
-        self.opened = Opened(self.words)
+        self.opened, self._runs = Opened(self.words), []
         self.ask(edits(first_project(), new.items), new)
 
     def edits_to(self, new):
@@ -82,30 +100,70 @@ class Programs:
 
     def ask(self, commands, new):
         """Sends edits that lead to a project, and all queries behind them but those of files that the edits can't change."""
-        nodes = nodes_of_files(commands)
+        nodes, self._edits, self._before = nodes_of_files(commands), commands, self.made
         self._current = set() if nodes is None else self._current.difference(queries_of(nodes))
-        self.made, self._asked = new, [query for query in queries_of(new.nodes()) if query not in self._current]
-        queries, self._behind = [b"project"] + self._asked + [b"trace"], []
-        if self.is_long:
-            self._behind = [queries.pop()]
+        self.made, self._asked, self.parts = new, [query for query in queries_of(new.nodes()) if query not in self._current], []
+        queries = [b"project"] + self._asked + ([] if self.is_long else [b"trace"])
         self.opened.send(b"".join(commands + [query + b"\n" for query in queries]), len(commands) + len(queries))
 
     def is_led(self):
         """Whether its project is now the one that it was led to."""
-        self.opened.take(self.opened.due - len(self._asked) - 2 + len(self._behind))
+        self.opened.take(len(self._edits))
         return self.opened.take_reply(self.made.reply) is self.made.reply
 
     def answers(self):
         """The lines that it answers to all queries but `trace`: the same as before where they are."""
-        for query in self._asked:
-            known = self._replies.get(query)
-            text = self.opened.take_reply(known.text if known else b"")
-            if not known or known.text is not text:
-                self._replies[query] = Reply(text)
-            self._current.add(query)
-        for query in self._behind:
-            self.opened.send(query + b"\n", 1)
+        others = [query for query in self._asked if self._is_other(query)]
+        if self.is_long:
+            self.parts = parts_of(self._first_moment(others), self.made.horizon())
+            self._ask_run()
+        else:
+            self._has_run()
         return {tool.shown(query): self._replies[query].lines for query in queries_of(self.made.nodes())}
+
+    def _is_other(self, query):
+        """Takes the reply to a query: whether it is another than before."""
+        known = self._replies.get(query)
+        text = self.opened.take_reply(known.text if known else b"")
+        self._current.add(query)
+        if not known or known.text is not text:
+            self._replies[query] = Reply(text)
+        return self._replies[query] is not known
+
+    # Its run.
+
+    def _first_moment(self, others):
+        """The first moment of the run that has to be simulated, where the replies to some queries are others: none where an
+        edit is taken back, as the windows of the project before are kept too; the start where the project before was left.
+        """
+        if self.made.reply in self._runs:
+            return NEVER
+        if not self._before or self._before.reply not in self._runs[-1:]:
+            return 0
+        return first_moment(self._edits, self._before.items, self.made.items, any(query != b"diag" for query in others))
+
+    def _has_run(self):
+        """The run is asked for whole: it is the last of the two that cobench keeps for sure."""
+        self._runs = [each for each in self._runs if each != self.made.reply][-1:] + [self.made.reply]
+
+    def _ask_run(self):
+        """Asks for the next part of the run, or for all of it. Behind each the project is what it was, whether the replies are
+        taken or left.
+        """
+        if self.parts:
+            self.opened.send(b"horizon %d\ntrace\nhorizon %d\n" % (self.parts[0], self.made.horizon()), 3)
+        else:
+            self.opened.send(b"trace\n", 1)
+            self._has_run()
+
+    def take_part(self):
+        """The next of the horizons, and the trace to it. What comes behind is asked for: cobench simulates it while that is drawn."""
+        self.opened.take(1)
+        text = self.opened.take_text()
+        self.opened.take(1)
+        horizon = self.parts.pop(0)
+        self._ask_run()
+        return horizon, text
 
     def why_ended(self):
         """Why it has ended, in words, "" where it hasn't."""

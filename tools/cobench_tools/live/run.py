@@ -108,20 +108,21 @@ NOTHING = {}, {}     # what a trace has told before its first line
 
 
 class Run:
-    """The windows of the last trace.
+    """The windows of the last trace; behind the moment to which it went those of the trace before.
 
     windows  what is kept of each, by number
+    known    that moment: the project's horizon, or an earlier one
     sorts    the sorts of all frames so far; its rows only grow, until all is made anew, as names are others
     """
 
     def __init__(self):
-        self.windows, self.sorts = {}, Sorts()
+        self.windows, self.known, self.sorts = {}, 0, Sorts()
         self._words, self._project, self._network, self._drawing = None, None, None, None
         self._told, self._count, self._gone = [], 0, []
         self._at, self._differences, self._flows = None, {}, {}
 
-    def take(self, text, project, devices):
-        """Takes the text of a trace: the numbers of the windows that are other than before, or are gone."""
+    def take(self, text, project, devices, known=None):
+        """Takes the text of a trace, whole or to a moment: the numbers of the windows that are other than before, or are gone."""
         before, words = self.windows, words_of(project)
         if words != self._words or len(self.sorts.rows) > MOST_SORTS:
             before, self._words = {}, words
@@ -129,12 +130,14 @@ class Run:
         self._project, self._differences = project, {}
         shown, self.windows, state, others = self.windows, {}, NOTHING, []
         for number, span in spans_of(text, shown):
-            known = before.get(number)
-            if not known or known.text is not span or known.before is not state:
-                known = self._kept(number, span, state, known)
-                others += [number] if self._is_other(known, shown.get(number)) else []
-            self.windows[number] = known
-            state = known.behind
+            kept = before.get(number)
+            if not kept or kept.text is not span or kept.before is not state:
+                kept = self._kept(number, span, state, kept)
+                others += [number] if self._is_other(kept, shown.get(number)) else []
+            self.windows[number] = kept
+            state = kept.behind
+        self.known = project.horizon if known is None else known
+        self.windows.update({number: each for number, each in before.items() if self.known < number * WINDOW <= project.horizon})
         return sorted(others + [number for number in shown if number not in self.windows])
 
     def _begin(self, project, devices):
@@ -214,19 +217,20 @@ class Run:
         project = self._project
         events = events_of(project, project.horizon)
         return {
-            "script": True, "end": project.horizon, "bit": 1000 // project.bitrate, "kinds": meaning.KINDS,
+            "script": True, "end": project.horizon, "known": self.known, "bit": 1000 // project.bitrate, "kinds": meaning.KINDS,
             "stateNames": STATES, "lanes": self.lanes(), "states": self._states_of(events),
             "events": [event_flag(self._network, *each) for each in events],
         }
 
     def _states_of(self, events):
-        """The states of the nodes; they are worked out anew from where something is other that changes them."""
+        """The states of the nodes as far as the run is known; they are worked out anew from where what changes them is other."""
         nodes, powers, found = sorted(self._project.nodes), {}, []
         for event in (event for _, event in events if event.kind == "power"):
             powers.setdefault(event.time // WINDOW, []).append((event.time, event.node, event.what))
-        flows, self._flows, states = self._flows, {}, first_states(nodes)
-        for number in sorted(self.windows.keys() | powers.keys()):
-            flow = self._flows[number] = self._flow(flows.get(number), self.windows.get(number), powers.get(number), states)
+        numbers, states = self.windows.keys() | powers.keys(), first_states(nodes)
+        flows = self._flows = {number: flow for number, flow in self._flows.items() if number in numbers}
+        for number in sorted(number for number in numbers if number * WINDOW <= self.known):
+            flow = flows[number] = self._flow(flows.get(number), self.windows.get(number), powers.get(number), states)
             states = flow.behind
             found += flow.changes
         return told_by_node(nodes, found)

@@ -17,7 +17,8 @@ class Live {
 
   /** Items are other: each part takes what is its own. What a save changes is new until the next one begins, which may come whole. */
   take(changed, whole) {
-    const began = performance.now(), status = this.items.get("status");
+    const began = performance.now(), status = this.items.get("status"), run = this.items.get("run");
+    document.body.classList.toggle("held", Boolean(run) && !isWhole(run));
     if (whole) for (const part of this.all) if (part.end) { part.end(null); part.begin(); }
     if (this.isOver && status && (status.state === "working" || changed.has("ledger"))) this.begin();
     for (const part of this.all) part.take(this.items, changed);
@@ -50,7 +51,7 @@ class Live {
     this.status.className = state;
     this.status.textContent = texts[state];
     if (state === "fault") this.voice.textContent = words;
-    this.run.wait(waits && state === "working" ? "the run is of the save before; this one is being simulated" : "");
+    this.run.wait(Boolean(waits) && state === "working");
   }
 
   lost() {

@@ -47,10 +47,10 @@ const isMarked = node => node.isNew || node.marks.length > 0 || node.values.some
 /** A node: a line on it, and below that, where it is open, its values and files. */
 class NodeCard {
   constructor() {
-    this.state = element("span", { class: "state chip" });
+    this.state = element("span", { class: "state chip of-run" });
     this.name = element("b", {});
     this.number = element("span", { class: "number" });
-    this.booted = element("span", { class: "soft booted" });
+    this.booted = element("span", { class: "soft booted of-run" });
     this.sheet = element("span", { class: "soft sheet" });
     this.tag = element("span", { class: "tag" });
     this.body = element("div", { class: "body" });
@@ -70,9 +70,14 @@ class NodeCard {
     this.fill();
   }
 
-  /** What the run shows of it. */
+  /** What the run shows of it. What goes by all of the run stays as it was until that is there. */
   about(run, boots) {
-    const states = run.states[this.node.node] || [], last = states.length ? run.stateNames[states[states.length - 1][1]] : "";
+    const states = run.states[this.node.node];
+    if (!states || !isWhole(run)) {
+      if (!this.shown) this.booted.textContent = this.state.textContent = "not known yet";
+      return;
+    }
+    const last = run.stateNames[states[states.length - 1][1]];
     const time = boots ? boots.times[this.node.node] : undefined, shown = `${last} ${time}`;
     if (shown === this.shown) return;
     this.shown = shown;

@@ -33,7 +33,11 @@ class RunPart {
 
   shown() { if (!this.frames.element.hidden) this.frames.shown(); }
 
-  wait(words) {
+  /** What of the run isn't of the script as it stands, and whether that is being simulated. */
+  wait(isWaiting) {
+    const { trace } = this.timeline, isPart = trace && !trace.isWhole(), from = isPart ? axisLabel(trace.known + 1, 1000) : "";
+    const words = isPart ? `${isWaiting ? "simulating" : "not simulated"} from ${from} ms on; what is pale is of the save before`
+      : isWaiting ? "the run is of the save before; this one is being simulated" : "";
     this.waits.textContent = words;
     this.waits.hidden = !words;
   }
@@ -73,6 +77,9 @@ class RunPart {
     this.timeline.goTo(tellFrame(this.timeline, frame));
   }
 }
+
+/** Whether all of a run is there, and not a part before some moment alone. */
+const isWhole = run => run.known >= run.end;
 
 /** The frames of a window, each as its time, identifier and bytes. */
 function frameKeys(content, sorts) {
@@ -152,7 +159,9 @@ class FrameTable {
     const { trace } = this, sort = trace.sortOf(frame), kind = trace.kinds[sort.kind];
     const time = element("button", { type: "button", class: "link", title: "show it in the timeline" }, shownTime(trace.time[frame]));
     const cells = [time, trace.identifier(frame), kind, trace.lanes[sort.lane].name, trace.text(frame), spaced(trace.bytes(frame))];
-    const made = element("tr", trace.fresh.has(frame) ? { class: "new" } : {}, ...cells.map(cell => element("td", {}, cell)));
+    const attributes = trace.isOld(trace.time[frame]) ? { class: "of-run", title: "of the save before" }
+      : trace.fresh.has(frame) ? { class: "new" } : {};
+    const made = element("tr", attributes, ...cells.map(cell => element("td", {}, cell)));
     made.children[2].prepend(element("i", { style: `background: var(--${colourOf(kind)})` }));
     made.addEventListener("click", () => this.chosen(frame));
     return made;

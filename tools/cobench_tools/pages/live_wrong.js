@@ -14,7 +14,7 @@ class WrongPart {
     if (!changed.has("wrong") && !changed.has("boots") && !changed.has("ledger")) return;
     const { errors, warnings, findings } = items.get("wrong") || { errors: 0, warnings: 0, findings: [] };
     const boots = items.get("boots");
-    this.summary.textContent = [countsText(errors, warnings), boots ? boots.text + "." : ""].join(" ");
+    this.summary.replaceChildren(countsText(errors, warnings) + " ", element("span", { class: "of-run" }, boots ? boots.text + "." : ""));
     this.summary.className = "summary " + (errors ? "wrong" : warnings ? "warned" : "well");
     this.list.replaceChildren(...findings.map(each => this.finding(each)));
     this.badge(errors ? String(errors) : warnings ? String(warnings) : "✓", errors ? "wrong" : warnings ? "warned" : "well");
@@ -32,7 +32,7 @@ class WrongPart {
   finding(each) {
     const isNew = this.known && !this.known.has(each.words + each.text);
     const place = `${each.file}:${each.line}`, who = each.who ? each.who + ": " : "";
-    const made = element("li", { class: each.severity + (isNew ? " new" : "") },
+    const made = element("li", { class: each.severity + (isNew ? " new" : "") + (OF_BOOTS.includes(each.code) ? " of-run" : "") },
       element("div", { class: "where" }, element("b", {}, each.severity), element("code", {}, place),
         isNew ? element("span", { class: "tag" }, "new") : "", element("span", { class: "code" }, each.code)),
       element("div", { class: "text" }, who + each.text));
@@ -41,6 +41,8 @@ class WrongPart {
     return made;
   }
 }
+
+const OF_BOOTS = ["failed", "unconfigured"];     // codes of what the run tells
 
 function countsText(errors, warnings) {
   if (!errors && !warnings) return "Nothing is wrong.";

@@ -55,7 +55,7 @@ class Timeline {
   describe() {
     const { trace } = this, trouble = trace.flags.filter(isTrouble).length;
     this.canvas.setAttribute("aria-label", `${several(trace.lanes.length, "lane")}, ${several(trace.count, "frame")}, ` +
-      `${several(trouble, "alarm")} in ${shownTime(trace.end)}`);
+      `${several(trouble, "alarm")} in ${shownTime(trace.end)}${trace.isWhole() ? "" : `, known up to ${shownTime(trace.known)}`}`);
     this.scroller.setAttribute("aria-label", "timeline; n and p go through events and alarms, period and comma through frames");
   }
 
@@ -92,6 +92,7 @@ class Timeline {
     drawLanes(pen, this, ticks);
     drawAxis(pen, this, ticks);
     drawBars(pen, this, this.height - this.bars());
+    drawVeil(pen, this);
     this.bar.follow();
   }
 
@@ -194,7 +195,7 @@ function laneLabel(view, lane) {
   const { lanes, trace } = view, title = lanes.compact ? lane.title.replace("node ", "") : lane.title;
   const label = element("li", { style: `top: ${lane.top}px; height: ${lane.height}px`, title: `${lane.name} ${lane.title}` },
     element("b", {}, lane.name), element("span", { class: "number" }, title));
-  if (lane.trouble) label.prepend(element("i", { class: "alarm", role: "img", "aria-label": several(lane.trouble, "alarm") }, "!"));
+  if (lane.trouble) label.prepend(element("i", { class: "alarm of-run", role: "img", "aria-label": several(lane.trouble, "alarm") }, "!"));
   if (lanes.compact) label.className = "compact";
   else for (const kind of lane.kinds) label.append(kindLabel(view, lane, kind));
   return label;

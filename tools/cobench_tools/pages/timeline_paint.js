@@ -54,7 +54,7 @@ function drawLanes(pen, view, ticks) {
 function drawStates(pen, view, lane) {
   const { scale, colours, trace } = view;
   lane.states.forEach(([time, state], n) => {
-    const next = n + 1 < lane.states.length ? lane.states[n + 1][0] : trace.end;
+    const next = n + 1 < lane.states.length ? lane.states[n + 1][0] : Math.min(trace.end, trace.known);
     const from = Math.max(scale.x(time), 0), to = Math.min(scale.x(next), scale.width);
     if (to <= from) return;
     pen.fillStyle = colours[trace.content.stateNames[state]];
@@ -74,6 +74,22 @@ function hatch(pen, colour, left, top, wide, high) {
   for (let at = left - high; at < left + wide; at += 7) { pen.moveTo(at, top + high); pen.lineTo(at + high, top); }
   pen.stroke();
   pen.restore();
+}
+
+/** A line along the axis as far as the run is known; what lies behind is of the trace before, under a veil. */
+function drawVeil(pen, view) {
+  const { scale, colours, trace } = view, high = view.height - AXIS;
+  if (trace.isWhole()) return;
+  const from = Math.max(scale.x(trace.known), 0), wide = Math.min(scale.x(trace.end), scale.width) - from;
+  pen.fillStyle = colours.accent;
+  pen.fillRect(0, AXIS - 2, from, 2);
+  if (wide <= 0) return;
+  pen.fillRect(from, AXIS - 2, 1, high + 2);
+  pen.globalAlpha = .72;
+  pen.fillStyle = colours.paper;
+  pen.fillRect(from + 1, AXIS, wide, high);
+  pen.globalAlpha = 1;
+  hatch(pen, colours.hatch, from + 1, AXIS, wide, high);
 }
 
 /** The steps in view as bars: where several share a pixel, the highest of them. */

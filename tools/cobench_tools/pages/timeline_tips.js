@@ -30,11 +30,14 @@ function nearestFrame(view, lane, x, y) {
   return best;
 }
 
+/** Behind a moment in words: that what stands there isn't of this run. */
+const ofBefore = (trace, time, kind) => trace.isOld(time, kind) ? " · of the save before" : "";
+
 function tellFrame(view, frame) {
   const { trace } = view, sort = trace.sortOf(frame), kind = trace.kinds[sort.kind], said = trace.said(frame);
   return {
     time: trace.time[frame], lane: sort.lane, frame, colour: colourOf(kind),
-    head: `${shownTime(trace.time[frame])} · ${kind} · ${trace.lanes[sort.lane].said}`,
+    head: `${shownTime(trace.time[frame])} · ${kind} · ${trace.lanes[sort.lane].said}${ofBefore(trace, trace.time[frame])}`,
     words: said.subject, values: said.values,
     code: `${trace.identifier(frame)} [${sort.size}] ${spaced(trace.bytes(frame))}`,
   };
@@ -42,10 +45,11 @@ function tellFrame(view, frame) {
 
 /** A flag, and up to eight others that stand at its pixel. */
 function tellFlag(view, flag, others = []) {
+  const { trace } = view, before = ofBefore(trace, flag.time, flag.kind);
   const more = others.length > 8 ? [`and ${others.length - 8} more`] : [];
   const values = others.slice(0, 8).map(each => `${shownTime(each.time)} ${each.words}`).concat(more);
   return { time: flag.time, lane: flag.lane, flag, colour: FLAG_COLOURS[flag.kind], values, code: "",
-    head: `${shownTime(flag.time)} · ${FLAG_SAYS[flag.kind]} · ${view.trace.lanes[flag.lane].said}`, words: flag.words };
+    head: `${shownTime(flag.time)} · ${FLAG_SAYS[flag.kind]} · ${trace.lanes[flag.lane].said}${before}`, words: flag.words };
 }
 
 function tellState(view, lane, time) {
@@ -58,7 +62,8 @@ function tellStep(view, time) {
   const { trace } = view, step = Math.floor(time / trace.step);
   if (step < 0 || step >= trace.steps) return null;
   const parts = trace.kinds.map((kind, n) => [kind, n]).filter(([, n]) => view.shows(n) && trace.counts[n][step]);
-  return { time, colour: "faint", head: `${axisLabel(step * trace.step, 1000)} to ${axisLabel((step + 1) * trace.step, 1000)} ms`,
+  const span = `${axisLabel(step * trace.step, 1000)} to ${axisLabel((step + 1) * trace.step, 1000)} ms`;
+  return { time, colour: "faint", head: span + ofBefore(trace, step * trace.step),
     words: several(view.total(step), "frame"), values: parts.map(([kind, n]) => `${kind} ${counted(trace.counts[n][step])}`), code: "" };
 }
 

@@ -7,6 +7,7 @@ class Toolbar {
     this.count = element("span", { class: "soft", role: "status" });
     this.legend = element("div", { class: "legend", role: "group", "aria-label": "kinds of frames" });
     this.list = new FlagList(view);
+    this.states = new Set();
     this.element = element("div", { class: "tools" }, this.buttons(), this.legend);
     this.search.addEventListener("input", () => view.search(this.search.value));
     this.search.addEventListener("keydown", event => this.leaveSearch(event));
@@ -30,8 +31,9 @@ class Toolbar {
   take(trace) {
     const kinds = trace.kinds.map((name, kind) => ({ name, kind, count: trace.countOf(kind), there: trace.countOf(kind, true) }))
       .filter(each => each.there);
-    const states = new Set(trace.lanes.flatMap(lane => lane.states.map(([, state]) => state)));
-    const names = trace.content.stateNames.filter((_, state) => states.has(state));
+    if (trace.isWhole()) this.states.clear();
+    for (const [, state] of trace.lanes.flatMap(lane => lane.states)) this.states.add(state);
+    const names = trace.content.stateNames.filter((_, state) => this.states.has(state));
     this.legend.replaceChildren(...kinds.map(each => this.chip(each)), ...names.map(stateChip));
     this.list.take(trace);
   }
@@ -39,7 +41,7 @@ class Toolbar {
   /** A kind of frames, by which it is hidden and shown. */
   chip({ name, kind, count }) {
     const made = element("button", { class: "chip", "aria-pressed": String(this.view.shows(kind)) },
-      element("i", { style: `background: var(--${colourOf(name)})` }), element("b", {}, name), counted(count));
+      element("i", { style: `background: var(--${colourOf(name)})` }), element("b", {}, name), element("span", { class: "of-run" }, counted(count)));
     made.addEventListener("click", () => {
       const shown = !this.view.shows(kind);
       made.setAttribute("aria-pressed", String(shown));
@@ -105,7 +107,7 @@ class FlagList {
     this.trace = trace;
     this.element.hidden = !trace.flags.length;
     summary.textContent = trouble ? several(trouble, "alarm") : several(trace.flags.length, "event");
-    summary.className = trouble ? "button wrong" : "button";
+    summary.className = trouble ? "button of-run wrong" : "button of-run";
     if (this.element.open) this.fill();
   }
 
@@ -117,7 +119,8 @@ class FlagList {
   }
 
   item(flag) {
-    const made = element("button", { type: "button", class: isTrouble(flag) ? "wrong" : "" },
+    const classes = (isTrouble(flag) ? "wrong" : "") + (this.trace.isOld(flag.time, flag.kind) ? " of-run" : "");
+    const made = element("button", { type: "button", class: classes },
       element("span", { class: "at" }, shownTime(flag.time)),
       element("span", {}, element("b", {}, this.trace.lanes[flag.lane].said), " ", flag.words));
     made.addEventListener("click", () => { this.element.open = false; this.view.scroller.focus(); this.view.goTo(tellFlag(this.view, flag)); });

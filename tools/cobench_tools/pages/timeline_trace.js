@@ -44,6 +44,7 @@ class Trace {
   constructor(content) {
     this.content = content;
     this.end = content.end;
+    this.known = content.known < content.end ? content.known : Infinity;   // behind this moment it is of the trace before
     this.bit = content.bit;
     this.kinds = content.kinds;
     this.lanes = content.lanes.map(([key, name, title, planned]) => ({ key, name, title, planned: Boolean(planned),
@@ -149,8 +150,14 @@ class Trace {
     return (subject + ": " + (text[1] ? values.join(" ") : spaced(this.bytes(frame)))).trim();
   }
 
+  isWhole() { return this.known === Infinity; }
+
+  /** Whether what stands at a moment is of the trace before; the events of the scenario never are. */
+  isOld(time, kind) { return time > this.known && kind !== "event"; }
+
   /** The state of a lane's node at a time, or "". */
   stateAt(lane, time) {
+    if (this.isOld(time)) return "";
     const found = this.lanes[lane].states.filter(([at]) => at <= time).pop();
     return found ? this.content.stateNames[found[1]] : "";
   }

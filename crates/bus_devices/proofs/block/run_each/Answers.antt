@@ -3,7 +3,7 @@ use Rattle.std.proofs.lemmas.List.{drop-set-lt}
 use Rattle.image_parts.proofs.RecordLemmas.{lasts_in_turn}
 use Rattle.device_agenda.specs.Agenda.{at_instant}
 use Rattle.image_parts.proofs.EachLemmas.{each_state, each_noted, each_counted}
-use Rattle.bus_devices.proofs.AgendaLemmas.{agenda_at, enough, same_at, same_behind}
+use Rattle.bus_devices.proofs.OutlookLemmas.{deaf_at, deaf_set, enough, outlook_at, outlook_set, same_behind}
 use Rattle.bus_devices.proofs.StillLemmas.{neither, set_as_it_was}
 use Rattle.bus_devices.proofs.block.run_each.Goals as goal
 
@@ -31,23 +31,24 @@ loop-place-preserved g c =
       still = λ none.
           let both = neither c.loop-place.ran c.in_ok-had_to.had_to none in
           set_as_it_was ss i d t (e.still both.1) ∙ old.still both.0;
+      outlooks = outlook_set c.loop-place.outlooks ss i c.run_one.new.outlook t e.outlook old.outlooks;
+      deaf = deaf_set c.run_one.new.low_bytes ss i t (e.own (deaf_at c.loop-place.low_bytes ss i d within old.deaf))
+          (e.deaf ss old.deaf);
       behind = drop-set-lt (i + 1) ss i t (omega arith) ∙ same_behind ss c.args.devices.now i old.behind;
     }
 
-pub offset_bounds-agendas-place : goal.offset_bounds-agendas-place
-offset_bounds-agendas-place g c =
-    let many = enough c.args.agendas.now c.args.devices.now c.requires.agendas in
-    let within : c.loop-place.place < length c.args.agendas.now = omega (arith, many) in
+pub offset_bounds-outlooks-place : goal.offset_bounds-outlooks-place
+offset_bounds-outlooks-place g c =
+    let many = enough c.loop-place.outlooks c.loop-place.devices c.loop-place.invariant.outlooks in
+    let within : c.loop-place.place < length c.loop-place.outlooks = omega (arith, many) in
     search rules
 
-pub bounds-agendas-place : goal.bounds-agendas-place
-bounds-agendas-place g c =
-    let many = enough c.args.agendas.now c.args.devices.now c.requires.agendas in omega (arith, many)
+pub bounds-outlooks-place : goal.bounds-outlooks-place
+bounds-outlooks-place g c =
+    let many = enough c.loop-place.outlooks c.loop-place.devices c.loop-place.invariant.outlooks in
+    omega (arith, many)
 
-pub run_one-requires-clause-agenda : goal.run_one-requires-clause-agenda
-run_one-requires-clause-agenda g c =
-    let old = c.args.devices.now in
-    let i = c.loop-place.place in
-    let item = c.index-devices-place in
-    rw (same_at c.loop-place.devices old i c.loop-place.invariant.behind item.result)
-    (agenda_at c.args.agendas.now old i _ item.result (omega arith) c.requires.agendas)
+pub run_one-requires-clause-outlook : goal.run_one-requires-clause-outlook
+run_one-requires-clause-outlook g c =
+    outlook_at c.loop-place.outlooks c.loop-place.devices c.loop-place.place _ _ (omega arith)
+    c.loop-place.invariant.outlooks

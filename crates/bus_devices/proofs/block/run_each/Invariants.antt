@@ -1,8 +1,10 @@
 use Rattle.std.proofs.Common.{◌≡◌, ◌++◌, ◌≤◌, ◌+◌, false, length, take, drop}
 use Rattle.device_agenda.specs.Agenda.{at_instant}
+use Rattle.device_agenda.specs.LowBytes.{AreDeafBeyond}
 use Rattle.image_parts.specs.Asking.{outcome, after_reads, reads}
 use Rattle.image_parts.specs.Record.{Lasts}
 use Rattle.image_parts.specs.Each.{each}
+use Rattle.bus_devices.specs.Blocks.{AreOutlooksOf}
 use Rattle.bus_devices.proofs.block.run_each.Given as goal
 
 -- what is done and what is left give what all give; where none had to run so far, they are as they were, and those
@@ -21,4 +23,6 @@ invariant-loop-place g l =
       lasts : Lasts seen (g.P.Asked.seen l.shapes);
       still : l.ran ≡ false → l.devices ≡ l.fn.devices;
       behind : drop l.place l.devices ≡ drop l.place l.fn.devices;
+      outlooks : AreOutlooksOf l.outlooks l.devices;
+      deaf : AreDeafBeyond l.low_bytes l.devices;
     }

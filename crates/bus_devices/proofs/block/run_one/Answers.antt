@@ -9,7 +9,7 @@ pub returns-then-sleeps_through-clause-ran : goal.returns-then-sleeps_through-cl
 returns-then-sleeps_through-clause-ran g c =
     let d = c.args.device.now in
     let still : at_instant c.args.t c.args.delivery.now d ≡ Answer d =
-    one_sleeps c.args.agenda.now d c.args.t c.args.delivery.now c.requires.agenda
+    one_sleeps c.args.outlook.now.agenda d c.args.t c.args.delivery.now c.requires.outlook.agenda
     (c.sleeps_through.ensures.bound c.if-sleeps_through.true) (sym c.sleeps_through.ensures.sleeps
     ∙ c.if-sleeps_through.true) in
     goes_none (at_instant c.args.t c.args.delivery.now d) d _ _ _ still

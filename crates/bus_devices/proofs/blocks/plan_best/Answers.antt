@@ -1,9 +1,18 @@
 use Rattle.std.proofs.Common.{◌/◌, ◌<◌, List, length, rules, take, subst, ◌∙◌, ap}
 use Rattle.co_device.specs.Device.{Device}
+use Rattle.bus_devices.specs.Blocks.{IsBlockOf}
 use Rattle.bus_devices.proofs.BlockLemmas.{front_is}
-use Rattle.bus_devices.proofs.SenderLemmas.{IsBest}
-use Rattle.bus_devices.proofs.SentLemmas.{best_planned, place_within}
+use Rattle.bus_devices.proofs.SentLemmas.{block_planned, block_was, place_within}
 use Rattle.bus_devices.proofs.blocks.plan_best.Goals as goal
+
+pub plan_best_of-requires-clause-was : goal.plan_best_of-requires-clause-was
+plan_best_of-requires-clause-was c =
+    let ds = c.args.devices.now in
+    let rest = c.split_at.result.1.now in
+    let front = front_is c.first_block.result rest c.split_at-2.result.0.now c.first_block.ensures
+    c.split_at-2.ensures.front in
+    block_was c.args.i c.args.blocks.now ds c.requires _ c.split_at-2.result.0.now
+    (front ∙ ap (take 8) c.split_at.ensures.back)
 
 pub returns : goal.returns
 returns c =
@@ -11,9 +20,9 @@ returns c =
     let rest = c.split_at.result.1.now in
     let front = front_is c.first_block.result rest c.split_at-2.result.0.now c.first_block.ensures
     c.split_at-2.ensures.front in
-    best_planned c.args.i c.args.blocks.now ds c.requires _ c.winner_of.result
-    (subst (λ (xs : List Device). IsBest c.winner_of.result xs) (front ∙ ap (take 8) c.split_at.ensures.back)
-    c.winner_of.ensures)
+    block_planned c.args.i c.args.blocks.now ds c.requires c.plan_best_of.new.block
+    (subst (λ (xs : List Device). IsBlockOf c.plan_best_of.new.block xs) (front ∙ ap (take 8) c.split_at.ensures.back)
+    c.plan_best_of.ensures)
 
 pub bounds-blocks-place : goal.bounds-blocks-place
 bounds-blocks-place c = place_within c.args.i c.args.blocks.now c.args.devices.now c.requires

@@ -38,6 +38,9 @@ invariant_of-self-then-known c =
     (sym back) (rw c.deref.ensures.value at c.plan_best.ensures) in
     λ known. record {
       each = subst (λ (blocks : List Block). AreBlocksOf blocks ds) c.deref-then-known.ensures.value each;
-      all = c.all_sent-self-inside.ensures ds each (agenda_set c.send.new.self (without_power false 0)
-          c.self.inside.all.agenda old c.args.i due (c.self.invariant c.if-known.true).all.agenda);
+      all = record {
+        agenda = agenda_set c.send.new.self (without_power false 0) c.self.inside.all.agenda old c.args.i due
+            (c.self.invariant c.if-known.true).all.agenda;
+        best = c.best_of-self-inside.ensures ds each;
+      };
     }

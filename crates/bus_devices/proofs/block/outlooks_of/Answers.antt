@@ -1,7 +1,7 @@
 use Rattle.std.proofs.Common.{◌<◌, length, arith}
 use Rattle.std.proofs.lemmas.List.{length-set}
-use Rattle.bus_devices.proofs.AgendaLemmas.{agenda_more}
-use Rattle.bus_devices.proofs.block.agendas_of.Goals as goal
+use Rattle.bus_devices.proofs.OutlookLemmas.{outlook_more}
+use Rattle.bus_devices.proofs.block.outlooks_of.Goals as goal
 
 pub loop-place-preserved : goal.loop-place-preserved
 loop-place-preserved c =
@@ -9,8 +9,8 @@ loop-place-preserved c =
     let within : c.loop-place.place < length c.args.devices.now = omega arith in
     record {
       long = simp length-set old.long;
-      agendas = agenda_more c.loop-place.agendas c.args.devices.now c.loop-place.place c.agenda.result
+      outlooks = outlook_more c.loop-place.outlooks c.args.devices.now c.loop-place.place c.of.result
           c.index-devices-place.result
-          (omega (arith, old.long, c.requires, within)) within (rw c.index-devices-place.is at c.agenda.ensures)
-          old.agendas;
+          (omega (arith, old.long, c.requires, within)) within (rw c.index-devices-place.is at c.of.ensures)
+          old.outlooks;
     }
