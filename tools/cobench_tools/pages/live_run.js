@@ -81,22 +81,34 @@ class RunPart {
 /** Whether all of a run is there, and not a part before some moment alone. */
 const isWhole = run => run.known >= run.end;
 
-/** The frames of a window, each as its time, identifier and bytes. */
-function frameKeys(content, sorts) {
-  let time = content.at, place = 0;
-  return content.sort.map((number, n) => {
-    const size = 2 * sorts[number][3], data = content.data.slice(place, place + size);
-    time += content.time[n];
-    place += size;
-    return `${time} ${sorts[number][0]} ${data}`;
-  });
+/** A place among the frames of a window, which stand by time: its number, its time, and where its bytes begin. */
+class FramePlace {
+  constructor(content, sorts) {
+    Object.assign(this, { content, sorts, number: 0, data: 0, time: content.at + content.time[0] });
+  }
+
+  isThere() { return this.number < this.content.sort.length; }
+
+  sort() { return this.sorts[this.content.sort[this.number]]; }
+
+  bytes() { return this.content.data.slice(this.data, this.data + 2 * this.sort()[3]); }
+
+  next() {
+    this.data += 2 * this.sort()[3];
+    this.time += this.content.time[++this.number];
+  }
+
+  /** Whether a frame of another window is the same: of this time and identifier, and with these bytes. */
+  isSame(other) { return this.time === other.time && this.sort()[0] === other.sort()[0] && this.bytes() === other.bytes(); }
 }
 
-/** The places of the frames that a window didn't have before. */
+/** The places of the frames that a window didn't have before. Bytes are looked at only where times are the same. */
 function freshOf(before, content, sorts) {
-  const old = new Set(before ? frameKeys(before.content, before.sorts) : []);
-  const fresh = new Set();
-  frameKeys(content, sorts).forEach((key, n) => { if (!old.has(key)) fresh.add(n); });
+  const fresh = new Set(), now = new FramePlace(content, sorts), old = before && new FramePlace(before.content, before.sorts);
+  for (; now.isThere(); now.next()) {
+    while (old && old.isThere() && old.time < now.time) old.next();
+    if (!old || !old.isThere() || !now.isSame(old)) fresh.add(now.number);
+  }
   return fresh;
 }
 
