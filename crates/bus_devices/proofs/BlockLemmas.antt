@@ -173,11 +173,7 @@ module _ (step : Device → Asking Part Content Device) (ds : List Device) where
       let back : length rest ≡ length ds - 8 = ap length f ∙ length_each step (drop 8 ds) image ∙ length-drop 8 ds in
       both_of a blocks block rest (omega (arith, front, back)) g h
 
--- ---- what a list of blocks begins with
-
-pub opened : (blocks others : List Block) (a : Block) (ds : List Device) → blocks ≡ a ∷ others
-    → AreBlocksOf blocks ds → IsBlockOf a (take 8 ds) × AreBlocksOf others (drop 8 ds)
-opened blocks others a ds e h = subst (λ (xs : List Block). AreBlocksOf xs ds) e h
+-- ---- a list of one block
 
 pub one_set : (blocks : List Block) (a : Block) → length blocks ≡ 1 → set blocks 0 a ≡ a ∷ []
 one_set [] a e = absurd (omega (arith, e))

@@ -9,4 +9,3 @@ pub mod EventLemmas
 pub mod OtherLemmas
 pub mod OutlookLemmas
 pub mod StepLemmas
-pub mod TimeLemmas

@@ -1,13 +1,12 @@
 -- What is known of devices, one by one.
 use Rattle.std.proofs.Common.{◌≡◌, ℕ, zero, suc, ◌+◌, ◌<◌, ◌≤◌, List, [], ◌∷◌, ◌++◌, length, take, drop, get_or, set}
 use Rattle.std.proofs.Common.{Option, sym, ap, ◌∙◌, subst, arith}
-use Rattle.std.specs.List.{AllByRecursion}
-use Rattle.std.proofs.lemmas.List.{append-nil, get_or-drop, take_more}
+use Rattle.std.proofs.lemmas.List.{append-nil, take_more}
 use Rattle.bus_devices.specs.Blocks.{AreOutlooksOf, IsOutlookOf}
 use Rattle.bus_devices.specs.declared.outlook.Outlook.{Outlook}
-use Rattle.bus_devices.proofs.SenderLemmas.{IsBest}
+use Rattle.bus_devices.proofs.SenderLemmas.{IsBest, best_of_both}
 use Rattle.bus_devices.proofs.SentLemmas.{drop_later}
-use Rattle.can_frame.specs.Winner.{contenders_of, IsWinner}
+use Rattle.can_frame.specs.Winner.{contenders_of, lower, IsWinner}
 use Rattle.can_frame.specs.declared.contender.Contender.{Contender}
 use Rattle.co_device.specs.Device.{Device}
 use Rattle.device_agenda.specs.LowBytes.{AreDeafBeyond, IsDeafBeyond}
@@ -66,18 +65,13 @@ pub one_more : (a b both : Outlook) (ds : List Device) (i : ℕ) (d : Device) �
     → IsOutlookOf a (take i ds) → IsOutlookOf b (get_or ds i d ∷ []) → IsOutlookOf both (take (i + 1) ds)
 one_more a b both ds i d within gives g h = rw (take_more ds i d within) (gives (take i ds) (get_or ds i d ∷ []) g h)
 
+-- the frame that wins of those that wait at devices and at one more
+pub best_more : (a b best : Option Contender) (ds : List Device) (i : ℕ) (d : Device) → i < length ds
+    → IsBest a (take i ds) → IsBest b (get_or ds i d ∷ []) → best ≡ lower a b → IsBest best (take (i + 1) ds)
+best_more a b best ds i d within g h e =
+    rw (take_more ds i d within) (best_of_both (take i ds) (get_or ds i d ∷ []) a b best g h e)
+
 -- ---- beyond which low bytes devices are deaf
-
--- what `LowBytes::and` gives
-abbrev pub GivesDeaf : LowBytes → LowBytes → LowBytes → Type 0
-GivesDeaf a b both = (ds es : List Device) → AreDeafBeyond a ds → AreDeafBeyond b es → AreDeafBeyond both (ds ++ es)
-
-module _ (a b both : LowBytes) (gives : GivesDeaf a b both) where
-  pub wider_deaf : (ds : List Device) → AreDeafBeyond a ds → AreDeafBeyond both ds
-  wider_deaf ds h = subst (AreDeafBeyond both) (append-nil {A = Device} ds) (gives ds [] h tt)
-
-  pub own_deaf : (d : Device) → IsDeafBeyond b d → IsDeafBeyond both d
-  own_deaf d h = (gives [] (d ∷ []) tt (h, tt)).0
 
 pub deaf_at : (bytes : LowBytes) (ds : List Device) (i : ℕ) (d : Device) → i < length ds → AreDeafBeyond bytes ds
     → IsDeafBeyond bytes (get_or ds i d)
@@ -85,23 +79,14 @@ deaf_at bytes [] i d within all = absurd (omega (arith, within))
 deaf_at bytes (x ∷ ds) zero d within all = all.0
 deaf_at bytes (x ∷ ds) (suc i) d within all = deaf_at bytes ds i d (omega (arith, within)) all.1
 
-pub deaf_set : (bytes : LowBytes) (ds : List Device) (i : ℕ) (d : Device) → IsDeafBeyond bytes d
+pub ran_deaf : (bytes : LowBytes) (ds : List Device) (i : ℕ) (d : Device) → IsDeafBeyond bytes d
     → AreDeafBeyond bytes ds → AreDeafBeyond bytes (set ds i d)
-deaf_set bytes [] i d h all = tt
-deaf_set bytes (x ∷ ds) zero d h all = (h, all.1)
-deaf_set bytes (x ∷ ds) (suc i) d h all = (all.0, deaf_set bytes ds i d h all.1)
+ran_deaf bytes [] i d h all = tt
+ran_deaf bytes (x ∷ ds) zero d h all = (h, all.1)
+ran_deaf bytes (x ∷ ds) (suc i) d h all = (all.0, ran_deaf bytes ds i d h all.1)
 
 -- ---- devices of which those from a place on are as they were
 
 module _ (ds old : List Device) (i : ℕ) (e : drop i ds ≡ drop i old) where
-  pub same_at : (d : Device) → get_or ds i d ≡ get_or old i d
-  same_at d =
-      let here : i ≡ i + 0 = omega arith in
-      ap (λ (n : ℕ). get_or ds n d) here
-      ∙ sym (get_or-drop i ds 0 d)
-      ∙ ap (λ (xs : List Device). get_or xs 0 d) e
-      ∙ get_or-drop i old 0 d
-      ∙ ap (λ (n : ℕ). get_or old n d) (sym here)
-
   pub same_behind : drop (i + 1) ds ≡ drop (i + 1) old
   same_behind = drop_later i 1 (i + 1) ds (omega arith) ∙ ap (drop 1) e ∙ sym (drop_later i 1 (i + 1) old (omega arith))

@@ -19,6 +19,7 @@ use Rattle.co_device.specs.Device.{Device}
 use Rattle.image_parts.specs.Contents.{Content, Image}
 use Rattle.image_parts.specs.declared.part.Part.{Part}
 use Rattle.device_agenda.specs.Agenda.{at_instant}
+use Rattle.device_agenda.specs.Alarms.{agenda_by}
 use Rattle.device_agenda.specs.Delivered.{Delivered}
 use Rattle.device_agenda.proofs.SleepLemmas.{nothing_reaches}
 use Rattle.device_pdos.proofs.LookLemmas.{all_both}
@@ -42,7 +43,7 @@ module _ (t : ℕ) (delivered : Option Delivered) (bound : IfSome delivered (λ 
       let more : m ≡ 8 + 8 * n = omega (arith, e) in
       subst Idle (sym (ap (λ (k : ℕ). take k ds) more ∙ take-add {A = Device} 8 (8 * n) ds))
       (all_both (λ d. at_instant t delivered d ≡ Answer d) (take 8 ds) (take (8 * n) (drop 8 ds))
-      (nothing_reaches b.outlook.agenda b.low_bytes (take 8 ds) t delivered bound h.0.outlook.agenda h.0.low_bytes
+      (nothing_reaches (agenda_by b.outlook.alarm) b.low_bytes (take 8 ds) t delivered bound h.0.outlook.agenda h.0.low_bytes
       asleep.0)
       (all_idle_in n (8 * n) blocks (drop 8 ds) refl h.1 asleep.1))
 

@@ -1,10 +1,11 @@
 -- The winner and who sends, block by block.
 use Rattle.std.proofs.Common.{◌≡◌, ℕ, suc, ◌+◌, ◌<◌, ◌==◌, ◌&&◌, Bool, true, false, List, [], ◌∷◌, ◌++◌, length}
-use Rattle.std.proofs.Common.{take, drop, Option, Some, None, refl, sym, ap, ◌∙◌, subst, arith, zero-add}
-use Rattle.std.specs.Prelude.{Contains, if◌then◌else◌, nat_lt, not}
+use Rattle.std.proofs.Common.{◌≤◌, take, drop, get_or, Option, Some, None, refl, sym, ap, ◌∙◌, subst, arith, zero-add}
+use Rattle.std.specs.Prelude.{Contains, if◌then◌else◌, min, nat_lt, not}
 use Rattle.std.specs.List.{position, position_or_len}
 use Rattle.std.proofs.lemmas.Bool.Decides.{nat_tests}
-use Rattle.std.proofs.lemmas.List.{map-append, take-append-drop}
+use Rattle.std.proofs.lemmas.List.{append-nil, drop_more, length-take, map-append, take-append-drop, take_all, take_more}
+use Rattle.std.proofs.Math.Seq.{take-add}
 use Rattle.std.proofs.lemmas.List.Concat.{flat_map-append}
 use Rattle.std.proofs.lemmas.List.Elements.{All-contains, Contains-append_left, Contains-append_right}
 use Rattle.std.proofs.lemmas.List.Quantifiers.{position-Some}
@@ -13,9 +14,7 @@ use Rattle.can_frame.specs.declared.contender.Contender.{Contender}
 use Rattle.can_frame.specs.declared.waiting.Waiting.{Waiting}
 use Rattle.can_frame.proofs.WinnerLemmas.{winner-append, winner-unique, winner_of-wins}
 use Rattle.co_device.specs.Device.{Device, without_power}
-use Rattle.bus_devices.specs.Blocks.{AreBlocksOf}
 use Rattle.bus_devices.specs.Senders.{contends_with, device_lists, is_contender, may_wait_at, sender_place}
-use Rattle.bus_devices.specs.declared.block.Block.{Block}
 
 -- ---- who wins
 
@@ -194,36 +193,73 @@ module _ (c : Contender) where
   unfolding sender_place
   none_sends ds best h e = sym (none_at ds (not_contained (contenders (device_lists ds)) best h e))
 
-  no_device : None ≡ sender_place c []
+  pub no_device : None ≡ sender_place c []
   unfolding sender_place
   no_device = refl
 
-  -- without blocks there are no devices
-  pub nowhere_in : (blocks : List Block) (ds : List Device) → length blocks ≡ 0 → AreBlocksOf blocks ds
+  -- it is known of a device whether it contends
+  pub contends_is : (d : Device) (o : Option Contender) → IsBest o (d ∷ []) → contends_with c d ≡ is_contender c o
+  contends_is d o h =
+      let cs : List Contender = contenders_of (d.number, d.waiting) in
+      ap (is_contender c) (sym (winner_is (cs ++ []) o h ∙ ap winner_of (append-nil cs)))
+
+  module _ (ds : List Device) (m : ℕ) (none : None ≡ sender_place c (take m ds)) where
+    -- none of the first ones contends, so it is one of those behind them
+    later : (ys : List Device) → position (contends_with c) (take m ds ++ ys)
+        ≡ after_many (length (take m ds)) (position (contends_with c) ys)
+    unfolding sender_place
+    later ys = found_later (contends_with c) (take m ds) ys (sym none)
+
+    whole : position (contends_with c) (take m ds ++ drop m ds) ≡ sender_place c ds
+    unfolding sender_place
+    whole = ap (position (contends_with c)) (take-append-drop {A = Device} m ds)
+
+    pub sends_behind : (i : ℕ) → Some i ≡ sender_place c (take 8 (drop m ds))
+        → Some (length (take m ds) + i) ≡ sender_place c ds
+    unfolding sender_place
+    sends_behind i e =
+        let rest : List Device = drop m ds in
+        let found : Some i ≡ position (contends_with c) rest =
+        sym (found_first (contends_with c) (take 8 rest) (drop 8 rest) i (sym e))
+        ∙ ap (position (contends_with c)) (take-append-drop {A = Device} 8 rest) in
+        ap (after_many (length (take m ds))) found ∙ sym (later rest) ∙ whole
+
+    pub none_of_both : (n : ℕ) → None ≡ sender_place c (take n (drop m ds)) → None ≡ sender_place c (take (m + n) ds)
+    unfolding sender_place
+    none_of_both n e =
+        ap (after_many (length (take m ds))) e
+        ∙ sym (later (take n (drop m ds)))
+        ∙ ap (position (contends_with c)) (sym (take-add {A = Device} m n ds))
+
+    module _ (d : Device) (within : m < length ds) where
+      first_left : drop m ds ≡ get_or ds m d ∷ drop (m + 1) ds
+      first_left = drop_more ds m d within
+
+      pub sends_next : contends_with c (get_or ds m d) ≡ true → Some m ≡ sender_place c ds
+      sends_next e =
+          let long : length (take m ds) ≡ min m (length ds) = length-take m ds in
+          let here : m ≡ length (take m ds) + 0 = omega (arith, long, within) in
+          ap (λ (n : ℕ). Some n) here
+          ∙ ap (λ (b : Bool). after_many (length (take m ds))
+          (if b then Some 0 else after_one (position (contends_with c) (drop (m + 1) ds)))) (sym e)
+          ∙ ap (after_many (length (take m ds)))
+          (sym (position_more (contends_with c) (get_or ds m d) (drop (m + 1) ds))
+          ∙ ap (position (contends_with c)) (sym first_left))
+          ∙ sym (later (drop m ds)) ∙ whole
+
+      pub none_next : contends_with c (get_or ds m d) ≡ false → None ≡ sender_place c (take (m + 1) ds)
+      unfolding sender_place
+      none_next e =
+          ap (λ (b : Bool). after_many (length (take m ds))
+          (if b then Some 0 else after_one (position (contends_with c) []))) (sym e)
+          ∙ ap (after_many (length (take m ds))) (sym (position_more (contends_with c) (get_or ds m d) []))
+          ∙ sym (later (get_or ds m d ∷ []))
+          ∙ ap (position (contends_with c)) (sym (take_more ds m d within))
+
+  -- it is none of the first ones, which are all
+  pub none_of_all : (ds : List Device) (m : ℕ) → length ds ≤ m → None ≡ sender_place c (take m ds)
       → None ≡ sender_place c ds
-  nowhere_in [] ds e h = subst (λ (xs : List Device). None ≡ sender_place c xs) (sym h) no_device
-  nowhere_in (a ∷ blocks) ds e h = absurd (omega (arith, e))
-
-  module _ (ds : List Device) where
-    whole : position (contends_with c) (take 8 ds ++ drop 8 ds) ≡ position (contends_with c) ds
-    whole = ap (position (contends_with c)) (take-append-drop {A = Device} 8 ds)
-
-    pub sends_here : (i : ℕ) → Some i ≡ sender_place c (take 8 ds) → Some i ≡ sender_place c ds
-    unfolding sender_place
-    sends_here i e = sym (found_first (contends_with c) (take 8 ds) (drop 8 ds) i (sym e)) ∙ whole
-
-    pub sends_later : (o : Option ℕ) → None ≡ sender_place c (take 8 ds) → o ≡ sender_place c (drop 8 ds)
-        → after_many (length (take 8 ds)) o ≡ sender_place c ds
-    unfolding sender_place
-    sends_later o none e = ap (after_many (length (take 8 ds))) e
-        ∙ sym (found_later (contends_with c) (take 8 ds) (drop 8 ds) (sym none)) ∙ whole
-
-    pub sends_at : (i : ℕ) → None ≡ sender_place c (take 8 ds) → Some i ≡ sender_place c (drop 8 ds)
-        → Some (length (take 8 ds) + i) ≡ sender_place c ds
-    sends_at i none e = sends_later (Some i) none e
-
-    pub sends_nowhere : None ≡ sender_place c (take 8 ds) → None ≡ sender_place c (drop 8 ds) → None ≡ sender_place c ds
-    sends_nowhere none e = sends_later None none e
+  none_of_all ds m past e = e ∙ ap (sender_place c) (take_all m ds past)
 
   pub sends_within : (ds : List Device) (i : ℕ) → Some i ≡ sender_place c ds → i < length ds
   unfolding sender_place

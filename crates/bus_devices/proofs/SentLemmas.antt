@@ -7,7 +7,7 @@ use Rattle.std.proofs.lemmas.List.{drop-set-add, drop-set-lt, get_or-drop, lengt
 use Rattle.std.proofs.lemmas.List.{take_at}
 use Rattle.std.proofs.Math.Seq.{drop-nil, take-set-lt}
 use Rattle.base.specs.Moments.{earliest}
-use Rattle.bus_devices.specs.Blocks.{AreBlocksOf, AreOutlooksOf, IsBlockOf, IsDueAsBefore, WasBlockOf, WereBlocksOf}
+use Rattle.bus_devices.specs.Blocks.{AreBlocksOf, AreOutlooksOf, IsBlockOf, IsDueAsBefore, WasKnown}
 use Rattle.bus_devices.specs.declared.outlook.Outlook.{Outlook}
 use Rattle.bus_devices.specs.declared.block.Block.{Block}
 use Rattle.bus_devices.proofs.SenderLemmas.{IsBest}
@@ -16,6 +16,7 @@ use Rattle.can_frame.specs.declared.contender.Contender.{Contender}
 use Rattle.can_frame.specs.declared.waiting.Waiting.{Waiting}
 use Rattle.co_device.specs.Device.{Device, moments, without_power}
 use Rattle.device_agenda.specs.Agenda.{IsAgendaOf, Sleeps}
+use Rattle.device_agenda.specs.Alarms.{agenda_by}
 use Rattle.device_agenda.specs.LowBytes.{AreDeafBeyond, IsDeafBeyond}
 use Rattle.device_agenda.specs.declared.agenda.Agenda.{Agenda}
 use Rattle.device_agenda.specs.declared.low_bytes.LowBytes.{LowBytes}
@@ -97,7 +98,7 @@ module _ (now d : Device) where
   outlooks_set outlooks [] i own o h wins all = tt
   outlooks_set [] (x ∷ ds) i own o h wins all = absurd all
   outlooks_set (a ∷ outlooks) (x ∷ ds) zero own o h wins all =
-      (record { agenda = agenda_set a.agenda (x ∷ []) 0 h all.0.agenda; best = wins }, all.1)
+      (record { agenda = agenda_set (agenda_by a.alarm) (x ∷ []) 0 h all.0.agenda; best = wins }, all.1)
   outlooks_set (a ∷ outlooks) (x ∷ ds) (suc i) own o h wins all =
       (all.0, outlooks_set outlooks ds i own o h wins all.1)
 
@@ -106,7 +107,7 @@ module _ (now d : Device) where
       → IsDueAsBefore (get_or ds i d) now → IsBest own (now ∷ []) → IsBest best (set ds i now) → IsBlockOf b ds
       → IsBlockOf (with_bests b i own best o) (set ds i now)
   block_set b ds i own best o h one wins known = record {
-    outlook = record { agenda = agenda_set b.outlook.agenda ds i h known.outlook.agenda; best = wins };
+    outlook = record { agenda = agenda_set (agenda_by b.outlook.alarm) ds i h known.outlook.agenda; best = wins };
     low_bytes = deaf_set b.low_bytes ds i h known.low_bytes;
     each = outlooks_set b.each ds i own o h one known.each;
   }
@@ -118,19 +119,28 @@ get_set [] i d now within = absurd (omega (arith, within))
 get_set (x ∷ ds) zero d now within = refl
 get_set (x ∷ ds) (suc i) d now within = get_set ds i d now (omega (arith, within))
 
-module _ (i : ℕ) (b : Block) (ds : List Device) (h : WasBlockOf i b ds) where
+module _ (i : ℕ) (b : Block) (ds : List Device) (h : WasKnown (IsBlockOf b) i ds) where
   pub as_many_now : length ds ≡ length h.before
   as_many_now = ap length h.changed ∙ length-set h.before i h.now
 
-  -- a block anew, where frames have changed at a device of it
+  now_at : (d : Device) → d ≡ get_or ds i d → d ≡ h.now
+  now_at d is = is ∙ ap (λ (xs : List Device). get_or xs i d) h.changed ∙ get_set h.before i d h.now h.within
+
+  -- what is known of each anew, where frames have changed at a device
+  pub own_planned : (d : Device) (own : Option Contender) (o : Outlook) → d ≡ get_or ds i d → IsBest own (d ∷ [])
+      → AreOutlooksOf (set b.each i (record (get_or b.each i o) { best = own })) ds
+  own_planned d own o is one =
+      subst (AreOutlooksOf (set b.each i (record (get_or b.each i o) { best = own }))) (sym h.changed)
+      (outlooks_set h.now (without_power false 0) b.each h.before i own o h.still
+      (subst (λ (x : Device). IsBest own (x ∷ [])) (now_at d is) one) h.of.each)
+
+  -- and so is the block
   pub bests_planned : (d : Device) (own best : Option Contender) (o : Outlook) → d ≡ get_or ds i d
       → IsBest own (d ∷ []) → IsBest best ds → IsBlockOf (with_bests b i own best o) ds
   bests_planned d own best o is one wins =
-      let now_is : d ≡ h.now = is ∙ ap (λ (xs : List Device). get_or xs i d) h.changed
-      ∙ get_set h.before i d h.now h.within in
       subst (λ (xs : List Device). IsBlockOf (with_bests b i own best o) xs) (sym h.changed)
       (block_set h.now (without_power false 0) b h.before i own best o h.still
-      (subst (λ (x : Device). IsBest own (x ∷ [])) now_is one)
+      (subst (λ (x : Device). IsBest own (x ∷ [])) (now_at d is) one)
       (subst (λ (xs : List Device). IsBest best xs) h.changed wins) h.of)
 
 get_taken : (n : ℕ) (ds : List Device) (r : ℕ) (d : Device) → r < n → get_or (take n ds) r d ≡ get_or ds r d
@@ -176,7 +186,15 @@ reach (suc k) (b ∷ blocks) ds h within =
     let left : k < length blocks = reach k blocks (drop 8 ds) h.1 (omega (arith, behind, within)) in
     omega (arith, left)
 
-block_at : (k : ℕ) (blocks : List Block) (ds : List Device) (b0 : Block) → k < length blocks → AreBlocksOf blocks ds
+-- there are no devices behind those of the blocks
+pub covered : (blocks : List Block) (ds : List Device) → AreBlocksOf blocks ds → length ds ≤ 8 * length blocks
+covered [] ds h = let none : length ds ≡ 0 = ap length h in omega (arith, none)
+covered (b ∷ blocks) ds h =
+    let behind : length (drop 8 ds) ≡ length ds - 8 = length-drop 8 ds in
+    let left = covered blocks (drop 8 ds) h.1 in
+    omega (arith, behind, left)
+
+pub block_at : (k : ℕ) (blocks : List Block) (ds : List Device) (b0 : Block) → k < length blocks → AreBlocksOf blocks ds
     → IsBlockOf (get_or blocks k b0) (take 8 (drop (8 * k) ds))
 block_at k [] ds b0 within h = absurd (omega (arith, within))
 block_at zero (b ∷ blocks) ds b0 within h = h.0
@@ -185,10 +203,7 @@ block_at (suc k) (b ∷ blocks) ds b0 within h =
     (sym (drop_later 8 (8 * k) (8 * suc k) ds (omega arith)))
     (block_at k blocks (drop 8 ds) b0 (omega (arith, within)) h.1)
 
-module _ (i : ℕ) (blocks : List Block) (ds : List Device) (h : WereBlocksOf i blocks ds) where
-  pub as_many : length ds ≡ length h.before
-  as_many = ap length h.changed ∙ length-set h.before i h.now
-
+module _ (i : ℕ) (blocks : List Block) (ds : List Device) (h : WasKnown (AreBlocksOf blocks) i ds) where
   pub place_within : i / 8 < length blocks
   place_within = reach (i / 8) blocks h.before h.of (let within = h.within in omega (arith, within))
 
@@ -206,7 +221,7 @@ module _ (i : ℕ) (blocks : List Block) (ds : List Device) (h : WereBlocksOf i 
 
   -- what was known of the block of the place
   pub block_was : (b0 : Block) (of_place : List Device) → of_place ≡ take 8 (drop (i / 8 * 8) ds)
-      → WasBlockOf (i % 8) (get_or blocks (i / 8) b0) of_place
+      → WasKnown (IsBlockOf (get_or blocks (i / 8) b0)) (i % 8) of_place
   block_was b0 of_place e =
       let none : Device = without_power false 0 in
       let at : i ≡ i / 8 * 8 + i % 8 = omega arith in

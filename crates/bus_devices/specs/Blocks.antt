@@ -7,15 +7,15 @@ use Rattle.bus_devices.specs.Places.{device_at}
 use Rattle.can_frame.specs.Winner.{contenders, IsWinner}
 use Rattle.co_device.specs.Device.{Device, moments}
 use Rattle.device_agenda.specs.Agenda.{IsAgendaOf, Sleeps}
+use Rattle.device_agenda.specs.Alarms.{agenda_by}
 use Rattle.device_agenda.specs.Delivered.{Delivered}
 use Rattle.device_agenda.specs.LowBytes.{AreDeafBeyond, IsDeafBeyond, sleeps_on}
-use Rattle.device_agenda.specs.declared.agenda.Agenda.{Agenda}
 use Rattle.device_agenda.specs.declared.groups.Groups.{Groups}
 use Rattle.device_agenda.specs.declared.low_bytes.LowBytes.{LowBytes}
 
--- what is known of devices: their agenda, and which of the frames that wait at them wins
+-- what is known of devices: their agenda, by an alarm, and which of the frames that wait at them wins
 pub record IsOutlookOf (outlook : Outlook) (ds : List Device) : Type 0 where
-  pub agenda : IsAgendaOf outlook.agenda ds
+  pub agenda : IsAgendaOf (agenda_by outlook.alarm) ds
   pub best : IsWinner (contenders (device_lists ds)) outlook.best
 
 -- what is known of each of the devices; there may be more of it
@@ -32,7 +32,7 @@ pub record IsBlockOf (block : Block) (ds : List Device) : Type 0 where
 
 -- nothing happens to its devices in an instant
 abbrev pub block_sleeps : ℕ → Option Delivered → Block → Bool
-block_sleeps t delivered block = sleeps_on t delivered block.low_bytes block.outlook.agenda
+block_sleeps t delivered block = sleeps_on t delivered block.low_bytes (agenda_by block.outlook.alarm)
 
 -- blocks of the devices, of eight at a time
 abbrev pub AreBlocksOf : List Block → List Device → Type 0
@@ -46,20 +46,11 @@ pub record IsDueAsBefore (was now : Device) : Type 0 where
   pub deaf : (bytes : LowBytes) → IsDeafBeyond bytes was → IsDeafBeyond bytes now
   pub silent : was.waiting ≡ [] → now.waiting ≡ []
 
--- what was known of the devices of a block, where since then the frames have changed that wait at the device at a place
-pub record WasBlockOf (i : ℕ) (block : Block) (ds : List Device) : Type 0 where
+-- what was known of devices, where since then the frames have changed that wait at the device at a place
+pub record WasKnown (Known : List Device → Type 0) (i : ℕ) (ds : List Device) : Type 0 where
   pub before : List Device
   pub now : Device
-  pub of : IsBlockOf block before
-  pub within : i < length before
-  pub still : IsDueAsBefore (device_at before i) now
-  pub changed : ds ≡ slice_set before i now
-
--- blocks of the devices as they were, where since then the frames have changed that wait at the device at a place
-pub record WereBlocksOf (i : ℕ) (blocks : List Block) (ds : List Device) : Type 0 where
-  pub before : List Device
-  pub now : Device
-  pub of : AreBlocksOf blocks before
+  pub of : Known before
   pub within : i < length before
   pub still : IsDueAsBefore (device_at before i) now
   pub changed : ds ≡ slice_set before i now

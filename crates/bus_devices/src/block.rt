@@ -13,7 +13,7 @@ ghost use Rattle.std.specs.List.{flat_map};
 ghost use Rattle.device_agenda.specs.Agenda.{at_instant};
 ghost use Rattle.device_agenda.specs.LowBytes.{AreDeafBeyond, IsDeafBeyond};
 
-use crate::outlook::{Outlook, lower};
+use crate::outlook::{Outlook, keep_lower};
 use base::earlier;
 use can_frame::Contender;
 use co_dict::Dict;
@@ -70,7 +70,7 @@ pub(crate) fn outlook_of(each: &[Outlook], devices: &[ScheduledDevice]) -> Outlo
 {
     let mut all = Outlook::none();
     for place in 0..devices.len() {
-        all = all.and(&each[place]);
+        all.add(&each[place]);
     }
     all
 }
@@ -107,7 +107,7 @@ fn run_one<P: Shapes>(
     ensures lasts { Lasts (P.seen shapes.old) (P.seen shapes.new) }
     ensures still { IfOk result (λ ran. ran ≡ false → device.new ≡ device.old) }
 {
-    if outlook.agenda.sleeps_through(t, delivery) {
+    if outlook.alarm.sleeps_through(t, delivery) {
         return Ok(false);
     }
     let ran = device.run_instant(t, delivery, shapes)?;
@@ -163,7 +163,19 @@ pub(crate) fn winner_of(devices: &[ScheduledDevice]) -> Option<Contender>
 {
     let mut best = None;
     for device in devices {
-        best = lower(best, &device.contender());
+        keep_lower(&mut best, &device.contender());
+    }
+    best
+}
+
+/// The same, by what is known of each.
+pub(crate) fn best_of_each(each: &[Outlook], devices: &[ScheduledDevice]) -> Option<Contender>
+    requires { AreOutlooksOf each.now devices.now }
+    ensures { IsWinner (contenders (device_lists devices.now)) result }
+{
+    let mut best = None;
+    for place in 0..devices.len() {
+        keep_lower(&mut best, &each[place].best);
     }
     best
 }
@@ -196,6 +208,24 @@ pub(crate) fn place_of_sender(contender: &Contender, devices: &[ScheduledDevice]
     devices
         .iter()
         .position(|device| contends_with(contender, device))
+}
+
+/// The same, by what is known of each.
+#[tactic(auto, unfolding(crate::specs::Senders::sender_place))]
+pub(crate) fn place_by_each(
+    contender: &Contender,
+    each: &[Outlook],
+    devices: &[ScheduledDevice],
+) -> Option<usize>
+    requires { AreOutlooksOf each.now devices.now }
+    ensures { result ≡ sender_place contender.now devices.now }
+{
+    for place in 0..devices.len() {
+        if is_same(contender, each[place].best) {
+            return Some(place);
+        }
+    }
+    None
 }
 
 /// The first device of a number. Walks them.

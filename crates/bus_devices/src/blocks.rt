@@ -3,15 +3,15 @@
 ghost use Rattle.std.specs.Prelude.{◌≡◌, ◌<◌, ◌≤◌, ◌*◌, false, true, List, length, min, take, IfOk, IfSome, OnOk};
 ghost use Rattle.std.specs.List.{AllByRecursion};
 ghost use Rattle.image_parts.specs.Record.{GoesBy, Lasts};
-ghost use Rattle.bus_devices.specs.Blocks.{AreBlocksOf, IsBlockOf, IsOutlookOf, WasBlockOf, WereBlocksOf, block_sleeps};
+ghost use Rattle.bus_devices.specs.Blocks.{AreBlocksOf, IsBlockOf, IsOutlookOf, WasKnown, block_sleeps};
 ghost use Rattle.bus_devices.specs.Senders.{device_lists, may_wait_at, sender_place as place_of};
 ghost use Rattle.image_parts.specs.Each.{each};
 ghost use Rattle.can_frame.specs.Winner.{contenders, IsWinner};
 ghost use Rattle.co_device.specs.Device.{Device};
 ghost use Rattle.device_agenda.specs.Agenda.{at_instant};
 
-use crate::block::{BLOCK, Block, outlook_of, place_of_sender, run_each, winner_of};
-use crate::outlook::{Outlook, lower};
+use crate::block::{BLOCK, Block, best_of_each, outlook_of, place_by_each, run_each};
+use crate::outlook::{Outlook, keep_lower};
 use can_frame::Contender;
 use device_agenda::{Delivery, ScheduledDevice};
 use device_objects::Shapes;
@@ -73,14 +73,15 @@ fn run_block<P: Shapes>(
 
 /// How many of the first blocks sleep through the moment t, at which this is delivered.
 fn asleep(blocks: &[Block], t: u64, delivery: &Option<Delivery>) -> usize
+    requires { t < END }
     ensures within { result ≤ length blocks.now }
     ensures asleep { AllByRecursion (λ b. block_sleeps t delivery.now b ≡ true) (take result blocks.now) }
     ensures bound { 0 < result → IfSome delivery.now (λ d. d.frame.id < 0x800) }
 {
     for i in 0..blocks.len() {
         let block = &blocks[i];
-        let agenda = &block.outlook.agenda;
-        if !agenda.sleeps_on(&block.low_bytes, t, delivery) {
+        let alarm = &block.outlook.alarm;
+        if !alarm.sleeps_on(&block.low_bytes, t, delivery) {
             return i;
         }
     }
@@ -130,17 +131,17 @@ pub(crate) fn run_blocks<P: Shapes>(
 
 /// Works out anew which frames win, after the frames have changed that wait at the device of a place. Walks the block.
 fn plan_best_of(block: &mut Block, devices: &[ScheduledDevice], i: usize)
-    requires was { WasBlockOf i block.old devices.now }
+    requires was { WasKnown (IsBlockOf block.old) i devices.now }
     requires few { length devices.now ≤ 8 }
     ensures { IsBlockOf block.new devices.now }
 {
     block.each[i].best = devices[i].contender();
-    block.outlook.best = winner_of(devices);
+    block.outlook.best = best_of_each(&block.each, devices);
 }
 
 /// The same of the block of the device at a place among all.
 pub(crate) fn plan_best(blocks: &mut [Block], devices: &[ScheduledDevice], i: usize)
-    requires { WereBlocksOf i blocks.old devices.now }
+    requires { WasKnown (AreBlocksOf blocks.old) i devices.now }
     ensures { AreBlocksOf blocks.new devices.now }
 {
     let place = i / BLOCK;
@@ -156,7 +157,7 @@ pub(crate) fn best_of(blocks: &[Block]) -> Option<Contender>
 {
     let mut best = None;
     for block in blocks {
-        best = lower(best, &block.outlook.best);
+        keep_lower(&mut best, &block.outlook.best);
     }
     best
 }
@@ -167,7 +168,7 @@ pub(crate) fn all_of(blocks: &[Block]) -> Outlook
 {
     let mut all = Outlook::none();
     for block in blocks {
-        all = all.and(&block.outlook);
+        all.add(&block.outlook);
     }
     all
 }
@@ -188,14 +189,14 @@ fn place_in(contender: &Contender, block: &Block, devices: &[ScheduledDevice]) -
     ensures { result ≡ place_of contender.now devices.now }
 {
     if may_wait_at(contender, &block.outlook.best) {
-        place_of_sender(contender, devices)
+        place_by_each(contender, &block.each, devices)
     } else {
         None
     }
 }
 
-/// The place of the first device that contends with a frame. Walks the blocks, and the devices of those where
-/// it or a lower frame waits.
+/// The place of the first device that contends with a frame. Walks the blocks, and what is known of the devices of
+/// those where it or a lower frame waits.
 pub(crate) fn sender_place(
     contender: &Contender,
     blocks: &[Block],
@@ -204,11 +205,12 @@ pub(crate) fn sender_place(
     requires { AreBlocksOf blocks.now devices.now }
     ensures { result ≡ place_of contender.now devices.now }
 {
-    let (first, others) = blocks.split_first()?;
-    let (block, rest) = devices.split_at(first_block(devices.len()));
-    if let Some(place) = place_in(contender, first, block) {
-        return Some(place);
+    for i in 0..blocks.len() {
+        let (before, rest) = devices.split_at(devices_of(i, devices.len()));
+        let (block, _behind) = rest.split_at(first_block(rest.len()));
+        if let Some(place) = place_in(contender, &blocks[i], block) {
+            return Some(before.len() + place);
+        }
     }
-    let place = sender_place(contender, others, rest)?;
-    Some(block.len() + place)
+    None
 }

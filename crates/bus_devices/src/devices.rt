@@ -151,7 +151,7 @@ impl Devices {
             P.seen P.asks shapes.old shapes.new) }
         ensures lasts { Lasts (P.seen shapes.old) (P.seen shapes.new) }
     {
-        if self.known && self.all.agenda.sleeps_through(t, delivery) {
+        if self.known && self.all.alarm.sleeps_through(t, delivery) {
             return Ok(());
         }
         let unknown = !self.known;
@@ -174,8 +174,9 @@ impl Devices {
     pub fn next_due(&self) -> Option<u64>
         ensures { result ≡ earliest (flat_map moments self.now) }
     {
-        if self.known && !self.all.agenda.awake {
-            return self.all.agenda.due;
+        let agenda = self.all.alarm.agenda();
+        if self.known && !agenda.awake {
+            return agenda.due;
         }
         first_due(&self.devices)
     }

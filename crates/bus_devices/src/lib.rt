@@ -9,10 +9,8 @@ pub mod event_laws;
 mod events;
 mod lists;
 mod outlook;
-mod steps_left;
 
 pub use apart::Apart;
 pub use devices::Devices;
 pub use events::run_events;
 pub use lists::{new_devices, power_all};
-pub use steps_left::StepsLeft;

@@ -6,25 +6,24 @@ ghost use Rattle.can_frame.specs.Winner.{lower as lower_of};
 ghost use Rattle.co_device.specs.Device.{Device};
 
 use can_frame::Contender;
-use device_agenda::{Agenda, ScheduledDevice};
+use device_agenda::{Alarm, ScheduledDevice};
 
 /// What is known of devices in a row: when they have to run, and which of their frames wins.
 #[derive(Clone, Copy, Debug)]
 pub(crate) struct Outlook {
     /// When they have to run.
-    pub agenda: Agenda,
+    pub alarm: Alarm,
     /// The least frame that waits at one of them, if one waits.
     pub best: Option<Contender>,
 }
 
-/// The one that wins of two contenders, as `Contender::lower`: mostly the other isn't there.
+/// Leaves the one that wins of two contenders, as `Contender::lower`: mostly the other isn't there.
 #[tactic(auto, using(crate::proofs::SenderLemmas::lower_none))]
-pub(crate) fn lower(one: Option<Contender>, other: &Option<Contender>) -> Option<Contender>
-    ensures { result ≡ lower_of one other.now }
+pub(crate) fn keep_lower(best: &mut Option<Contender>, other: &Option<Contender>)
+    ensures { best.new ≡ lower_of best.old other.now }
 {
-    match other {
-        None => one,
-        Some(_) => Contender::lower(one, *other),
+    if let Some(other) = other {
+        *best = Contender::lower(*best, Some(*other));
     }
 }
 
@@ -34,7 +33,7 @@ impl Outlook {
         ensures { IsOutlookOf result [] }
     {
         Outlook {
-            agenda: Agenda::none(),
+            alarm: Alarm::none(),
             best: None,
         }
     }
@@ -44,18 +43,16 @@ impl Outlook {
         ensures { IsOutlookOf result (device.now ∷ []) }
     {
         Outlook {
-            agenda: device.agenda(),
+            alarm: Alarm::of(&device.agenda()),
             best: device.contender(),
         }
     }
 
-    /// That of these devices and others.
-    pub(crate) fn and(self, other: &Outlook) -> Outlook
-        ensures { (ds es : List Device) → IsOutlookOf self ds → IsOutlookOf other.now es → IsOutlookOf result (ds ++ es) }
+    /// Takes that of others in: it becomes that of these devices and of them.
+    pub(crate) fn add(&mut self, other: &Outlook)
+        ensures { (ds es : List Device) → IsOutlookOf self.old ds → IsOutlookOf other.now es → IsOutlookOf self.new (ds ++ es) }
     {
-        Outlook {
-            agenda: self.agenda.and(other.agenda),
-            best: lower(self.best, &other.best),
-        }
+        self.alarm = self.alarm.and(other.alarm);
+        keep_lower(&mut self.best, &other.best);
     }
 }

@@ -14,4 +14,5 @@ pub mod DueLemmas
 pub mod QuietLemmas
 pub mod AfterLemmas
 pub mod DueRunLemmas
+pub mod FirstTimeLemmas
 pub mod LeastLemmas

@@ -12,6 +12,7 @@ mod nodes;
 mod note_line;
 mod parts;
 mod slot;
+mod steps_left;
 mod telling;
 mod windows;
 

@@ -6,7 +6,8 @@ ghost use Rattle.can_bus.specs.Bus.{after_events, after_window_start};
 
 use crate::bus_state::BusState;
 use crate::parts::Parts;
-use bus_devices::{Devices, StepsLeft, run_events};
+use crate::steps_left::StepsLeft;
+use bus_devices::{Devices, run_events};
 use image_parts::{END, WINDOW};
 use std::alloc::AllocError;
 use std::mem::replace;

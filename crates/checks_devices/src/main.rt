@@ -11,6 +11,8 @@ mod network;
 mod plan_shown;
 mod sheet;
 mod shown;
+#[cfg(test)]
+mod templates;
 mod writes_shown;
 
 use anyhow::Result;

@@ -10,9 +10,9 @@ use Rattle.can_bus.specs.Bus.{Bus}
 use Rattle.co_segments.specs.Placed.{AreNamed, AreSound, IsLater, IsNamed, ServesNone, IsEndNumber}
 use Rattle.co_segments.specs.Placed.{Meaning, Numbered, Placed, kept_of}
 use Rattle.co_segments.specs.declared.given.Given.{Given}
-use Rattle.recorded_spans.specs.Records.{IsRecordOf}
-use Rattle.recorded_spans.proofs.KnownLemmas.{all_marked_later}
-use Rattle.recorded_spans.proofs.NumberLemmas.{stands_later}
+use Rattle.trace_spans.specs.Records.{IsRecordOf}
+use Rattle.trace_spans.proofs.KnownLemmas.{all_marked_later}
+use Rattle.trace_spans.proofs.NumberLemmas.{stands_later}
 use Rattle.image_parts.specs.Asking.{outcome, reads}
 use Rattle.image_parts.specs.Contents.{Image}
 use Rattle.co_segments.specs.Segments.{IsServed, IsValidOnce, IsStale, IsTaken, Kept, Serves}

@@ -9,10 +9,10 @@ use Rattle.kept_shelf.proofs.EntryLemmas.{none_in}
 use Rattle.can_bus.specs.Bus.{Bus, blank_bus}
 use Rattle.image_parts.specs.Contents.{Image, RosterIs}
 use Rattle.image_parts.specs.declared.part.Part.{Part}
-use Rattle.recorded_spans.specs.Numbers.{KeepsMeaning, StandsFor, with_meaning}
-use Rattle.recorded_spans.specs.Reads.{AreNumbered, AreMarked, LearnsMore, Known, Recorded}
-use Rattle.recorded_spans.proofs.NumberLemmas.{given_keeps, given_stands, keeps_all, stands_later}
-use Rattle.recorded_spans.specs.declared.look.Look.{Look}
+use Rattle.trace_spans.specs.Numbers.{KeepsMeaning, StandsFor, with_meaning}
+use Rattle.trace_spans.specs.Reads.{AreNumbered, AreMarked, LearnsMore, Known, Recorded}
+use Rattle.trace_spans.proofs.NumberLemmas.{given_keeps, given_stands, keeps_all, stands_later}
+use Rattle.trace_spans.specs.declared.look.Look.{Look}
 use Rattle.co_segments.specs.declared.given.Given.{Given}
 use Rattle.co_segments.specs.declared.reached.Reached.{Reached}
 use Rattle.co_segments.specs.declared.stock.Stock.{Stock}

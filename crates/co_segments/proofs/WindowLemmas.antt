@@ -8,7 +8,7 @@ use Rattle.can_bus.specs.declared.line.Line.{Line}
 use Rattle.can_bus.proofs.ToldLemmas.{trace_of_run}
 use Rattle.bus_laws.specs.Spans.{span}
 use Rattle.bus_laws.proofs.SpanLemmas.{spans_are_the_run}
-use Rattle.recorded_spans.specs.Spans.{lines_of_spans}
+use Rattle.trace_spans.specs.Spans.{lines_of_spans}
 
 -- whole spans up to that of the horizon show the trace
 pub spans_show_trace : (image : Image) (horizon count : ℕ) → count ≡ horizon / 10000 + 1

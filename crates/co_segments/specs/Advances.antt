@@ -9,9 +9,9 @@ use Rattle.kept_values.specs.Work.{Rises, Work}
 use Rattle.image_parts.specs.Contents.{Content, Image}
 use Rattle.image_parts.specs.Images.{IsImage}
 use Rattle.image_parts.specs.declared.part.Part.{Part}
-use Rattle.recorded_spans.specs.Records.{IsRecordOf}
+use Rattle.trace_spans.specs.Records.{IsRecordOf}
 use Rattle.kept_shelf.specs.Shelves.{put_first}
-use Rattle.recorded_spans.specs.Spans.{IsReady}
+use Rattle.trace_spans.specs.Spans.{IsReady}
 use Rattle.co_segments.specs.declared.reached.Reached.{Reached}
 use Rattle.co_segments.specs.declared.stock.Stock.{Stock}
 use Rattle.co_segments.specs.declared.telling.Telling.{Telling}

@@ -6,8 +6,8 @@ use Rattle.can_bus.specs.declared.line.Line.{Line}
 use Rattle.image_parts.specs.Contents.{Content, Image}
 use Rattle.image_parts.specs.declared.part.Part.{Part}
 use Rattle.kept_shelf.specs.Numbers.{of_number}
-use Rattle.recorded_spans.specs.Numbers.{KeepsMeaning, StandsFor}
-use Rattle.recorded_spans.specs.Reads.{AreNumbered, AreMarked, LearnsMore, Known, Recorded, plain}
+use Rattle.trace_spans.specs.Numbers.{KeepsMeaning, StandsFor}
+use Rattle.trace_spans.specs.Reads.{AreNumbered, AreMarked, LearnsMore, Known, Recorded, plain}
 use Rattle.co_segments.specs.declared.given.Given.{Given}
 use Rattle.co_segments.specs.Segments.{IsValidOnce, IsStale, Kept}
 

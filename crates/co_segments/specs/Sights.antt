@@ -3,7 +3,7 @@ use Rattle.std.specs.Prelude.{Option, Some, None, option_map, ◌≡◌}
 use Rattle.can_bus.specs.Bus.{Bus}
 use Rattle.bus_devices.specs.Numbers.{values_of}
 use Rattle.dict_values.specs.Values.{number_at}
-use Rattle.recorded_spans.specs.declared.place.Place.{Place}
+use Rattle.trace_spans.specs.declared.place.Place.{Place}
 use Rattle.co_segments.specs.declared.sight.Sight.{Sight}
 
 -- the number that the first eight bytes of an entry spell, where the node has a device

@@ -4,9 +4,9 @@ use Rattle.std.specs.Prelude.{nat_eq, slice_get}
 use Rattle.std.specs.Map.{lookup}
 use Rattle.can_bus.specs.Bus.{Bus}
 use Rattle.image_parts.specs.Contents.{Image}
-use Rattle.recorded_spans.specs.Numbers.{StandsFor}
-use Rattle.recorded_spans.specs.Reads.{AreNumbered}
-use Rattle.recorded_spans.specs.declared.look.Look.{Look}
+use Rattle.trace_spans.specs.Numbers.{StandsFor}
+use Rattle.trace_spans.specs.Reads.{AreNumbered}
+use Rattle.trace_spans.specs.declared.look.Look.{Look}
 use Rattle.co_segments.specs.declared.reached.Reached.{Reached}
 use Rattle.co_segments.specs.declared.stock.Stock.{Stock}
 use Rattle.co_segments.specs.Placed.{AreNamed, AreSound, ServesNone, Meaning, Numbered, Placed, kept_of}

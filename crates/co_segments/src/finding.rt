@@ -7,8 +7,8 @@ ghost use Rattle.co_segments.specs.Stocks.{ArePassed, AreSegments, IsFound, Stan
 use crate::reached::Reached;
 use crate::stock::Stock;
 use can_bus::Parts;
-use recorded_spans::Look;
 use std::alloc::AllocError;
+use trace_spans::Look;
 
 /// The key of a segment that serves. Those of the number are tried, the last run or used first, from a place on
 /// before which none serves; none where it is known that none starts from the bus.

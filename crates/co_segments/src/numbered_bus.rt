@@ -2,7 +2,7 @@
 
 ghost use Rattle.std.specs.Prelude.{◌≡◌, ◌↔◌, ℕ, IfOk, IsTrue};
 ghost use Rattle.can_bus.specs.Bus.{Bus};
-ghost use Rattle.recorded_spans.specs.Numbers.{StandsFor};
+ghost use Rattle.trace_spans.specs.Numbers.{StandsFor};
 ghost use Rattle.co_segments.specs.Sights.{AreSightsOf};
 
 use crate::sight::Sight;

@@ -11,8 +11,8 @@ use crate::serving::give;
 use crate::sight::Sight;
 use can_bus::BusState;
 use kept_shelf::Shelf;
-use recorded_spans::Place;
 use std::alloc::{AllocError, Global};
+use trace_spans::Place;
 
 /// Whether a segment starts from another bus: as far as what is seen of both tells, or by a quick look at the device
 /// of a place, if there is one to look at.

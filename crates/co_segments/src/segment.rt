@@ -13,10 +13,9 @@ use bus_devices::Apart;
 use can_bus::{BusState, Parts};
 use kept_shelf::Numbered;
 use kept_values::Shared;
-use recorded_spans::{KeptRead, Look, matches};
 use std::alloc::{AllocError, Global};
 use std::marker::Model;
-use trace_text::Passage;
+use trace_spans::{KeptRead, Look, Passage, matches};
 
 /// A span that was run, from a bus on, with what it read and told.
 #[derive(Drop)]
@@ -32,7 +31,7 @@ impl Model for Segment {
     ghost use Rattle.can_bus.specs.contracts.bus_state.BusState as bus_state;
     ghost use Rattle.can_bus.specs.contracts.line.Line as line;
     ghost use Rattle.image_parts.specs.contracts.read.Read as noted;
-    ghost use Rattle.recorded_spans.specs.contracts.kept_read.KeptRead as marked;
+    ghost use Rattle.trace_spans.specs.contracts.kept_read.KeptRead as marked;
     ghost use Rattle.co_segments.specs.Placed.{Placed, placed_code, placed_of};
     ghost use Rattle.co_segments.specs.Segments.{kept_code};
 

@@ -21,10 +21,9 @@ use crate::telling::Telling;
 use can_bus::{BusState, Parts};
 use kept_shelf::Shelf;
 use kept_values::{Meter, Shared};
-use recorded_spans::{Look, run};
 use std::alloc::{AllocError, Global};
 use std::rc::Rc;
-use trace_text::TraceText;
+use trace_spans::{Look, TraceText, run};
 
 /// Gives a bus a new number, with what is seen of it, if it was looked at. It is kept without what is known of its
 /// devices beside them, which takes more than they do where none of them changed.

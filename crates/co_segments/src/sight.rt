@@ -5,7 +5,7 @@ ghost use Rattle.can_bus.specs.Bus.{Bus};
 ghost use Rattle.co_segments.specs.Sights.{IsSightOf, sight_of};
 
 use can_bus::BusState;
-use recorded_spans::Place;
+use trace_spans::Place;
 
 /// The number that the first eight bytes of an entry spell, at a bus: what tells a bus from another one at once.
 #[derive(Clone, Copy)]

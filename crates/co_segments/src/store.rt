@@ -8,7 +8,7 @@ ghost use Rattle.image_parts.specs.Images.{IsImage};
 ghost use Rattle.co_segments.specs.Advances.{Traces};
 ghost use Rattle.co_segments.specs.Segments.{HasRun, IsValidOnce, Kept, Traced, recorded_from};
 ghost use Rattle.co_segments.specs.Stocks.{AreSegments};
-ghost use Rattle.recorded_spans.specs.Spans.{lines_of_spans};
+ghost use Rattle.trace_spans.specs.Spans.{lines_of_spans};
 ghost use Rattle.kept_values.specs.Work.{Rises};
 
 use crate::given::Given;
@@ -22,7 +22,7 @@ use kept_shelf::Shelf;
 use kept_values::Meter;
 use std::alloc::{AllocError, Global};
 use std::marker::Model;
-use trace_text::TraceText;
+use trace_spans::TraceText;
 
 /// The number of windows for which the record of what was asked is kept.
 const RECORDED: u64 = 64;
@@ -64,7 +64,7 @@ fn let_go<P: Parts>(parts: &mut P, number: u64)
 }
 
 /// What the first `count` spans tell.
-fn trace_spans<P: Parts>(
+fn tell_spans<P: Parts>(
     stock: &mut Stock,
     parts: &mut P,
     count: u64,
@@ -145,7 +145,7 @@ impl Store {
         ensures rises { Rises meter.old meter.new }
     {
         let count = u64::from(horizon) / WINDOW + 1;
-        let mut told = trace_spans(&mut self.stock, parts, count, meter)?;
+        let mut told = tell_spans(&mut self.stock, parts, count, meter)?;
         let _asked = parts.take_asked();
         told.keep_shown(horizon)?;
         Ok(told)

@@ -2,9 +2,8 @@
 
 ghost use Rattle.std.specs.Prelude.{◌≡◌, []};
 
-use recorded_spans::Look;
 use std::alloc::Global;
-use trace_text::TraceText;
+use trace_spans::{Look, TraceText};
 
 /// What is known of the image during a trace, and what was told so far.
 #[derive(Drop)]

@@ -1,4 +1,5 @@
 pub mod AgendaLemmas
+pub mod AlarmLemmas
 pub mod GroupLemmas
 pub mod InstantLemmas
 pub mod LowByteLemmas

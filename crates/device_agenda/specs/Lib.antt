@@ -1,4 +1,5 @@
 pub mod Agenda
+pub mod Alarms
 pub mod Delivered
 pub mod Groups
 pub mod LowBytes

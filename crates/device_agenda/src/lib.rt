@@ -2,6 +2,7 @@
 #![tactic(auto, using(image_parts::proofs::RecordLemmas::record_laws))]
 
 mod agenda;
+mod alarm;
 mod delivery;
 mod groups;
 mod ignored;
@@ -13,6 +14,7 @@ mod scheduled_device;
 mod stirring;
 
 pub use agenda::Agenda;
+pub use alarm::Alarm;
 pub use delivery::Delivery;
 pub use groups::Groups;
 pub use low_bytes::LowBytes;

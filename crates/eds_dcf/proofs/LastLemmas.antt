@@ -1,7 +1,10 @@
 -- The last write to an entry, as writes come one by one.
 use Rattle.std.proofs.Common.{◌≡◌, ℕ, ◌+◌, ◌<◌, Bool, true, false, cond, ◌==◌, ◌&&◌, List, [], ◌∷◌, ◌++◌, length}
-use Rattle.std.proofs.Common.{get_or, take, reverse, Option, Some, option_map, refl, sym, ap, ◌∙◌, arith}
-use Rattle.std.proofs.lemmas.List.{reverse-append, take_more}
+use Rattle.std.proofs.Common.{◌%◌, ◌≢◌, get_or, set, take, reverse, Option, None, Some, option_map, refl, sym, ap, ◌∙◌}
+use Rattle.std.proofs.Common.{arith}
+use Rattle.std.proofs.lemmas.Bool.{eq-eqb, eqb-true, false≢true, ne_eqb}
+use Rattle.std.proofs.lemmas.Grind.{get_or-set_at}
+use Rattle.std.proofs.lemmas.List.{get_or-set_other, reverse-append, take_more}
 use Rattle.std.proofs.lemmas.Bool.Decides.{nat_tests}
 use Rattle.std.specs.declared.cmp.Ordering.{Ordering}
 use Rattle.std.specs.declared.cmp.Ordering.TheVariants.{Less, Equal, Greater}
@@ -12,6 +15,7 @@ use Rattle.concise_dcf.specs.declared.write.Write.{Write}
 use Rattle.co_dict.proofs.PlaceLemmas.{places_total}
 use Rattle.co_dict.specs.Places.{place_cmp}
 use Rattle.co_dict.specs.Values.{Values}
+use Rattle.eds_dcf.specs.Template.{Tells}
 use Rattle.eds_dcf.specs.Writes.{is_to, last_of}
 
 bytes_found : (t : Bool) (write : Write) (later : Option Write)
@@ -70,3 +74,36 @@ one_more_at writes i write values after place bytes within is_write index sub is
     ∙ ap (insert values (write.index, write.sub)) is_bytes) q
     ∙ ap (λ w. last_of (take i writes ++ w ∷ []) q) is_write
     ∙ ap (λ ws. last_of ws q) (sym (take_more writes i write within))
+
+-- ---- flags by index
+
+-- no entry has a value
+pub nothing_at : (values : Values) → values ≡ empty → (place : ℕ × ℕ) → get values place ≡ None
+nothing_at values is place = ap (λ (m : Values). get m place) is ∙ get-empty place_cmp place
+
+-- one more value, with its flag
+pub one_more_told : (flags : List Bool) (values after : Values) (place : ℕ × ℕ) (bytes : List ℕ)
+    (n : ℕ) → n ≡ place.0 → length flags ≡ 4096 → after ≡ insert values place bytes → Tells flags (get values)
+    → Tells (set flags (n % 4096) true) (get after)
+one_more_told flags values after place bytes n at full is told = λ index sub clear.
+    by index sub clear (index % 4096 == n % 4096) refl
+  where
+    apart : (index sub : ℕ) → (index ≡ place.0 → ⊥) → eq_by_cmp place_cmp (index, sub) place ≡ false
+    apart index sub other =
+        is_to_place (index, sub) (record { index = place.0; sub = place.1; bytes = bytes })
+        ∙ ap (λ t. t && (sub == place.1)) (ne_eqb index place.0 other)
+
+    by : (index sub : ℕ) → get_or (set flags (n % 4096) true) (index % 4096) false ≡ false → (t : Bool)
+        → (index % 4096 == n % 4096) ≡ t → get after (index, sub) ≡ None
+    by index sub clear true e =
+        let here : index % 4096 ≡ n % 4096 = eqb-true (index % 4096) (n % 4096) e in
+        let within : n % 4096 < length flags = omega arith in
+        let set_there : true ≡ false = sym (get_or-set_at flags (n % 4096) (index % 4096) true false here within)
+        ∙ clear in
+        absurd (cc)
+    by index sub clear false e =
+        let other : index % 4096 ≢ n % 4096 = λ same. false≢true (sym e ∙ eq-eqb (index % 4096) (n % 4096) same) in
+        ap (λ (m : Values). get m (index, sub)) is ∙ get-insert places_total values place bytes (index, sub)
+        ∙ ap (λ t. cond t (Some bytes) (get values (index, sub)))
+        (apart index sub (λ same. other (ap (λ m. m % 4096) (same ∙ sym at))))
+        ∙ told index sub (sym (get_or-set_other flags (n % 4096) (index % 4096) true false other) ∙ clear)

@@ -16,9 +16,10 @@ pub mod LengthLemmas
 pub mod LineLemmas
 mod MadeLemmas
 mod NamedLemmas
-mod PlainLemmas
+mod PieceLemmas
 mod PrintableLemmas
 pub mod PrintedLemmas
+mod RunLemmas
 mod SectionLemmas
 mod StandingLemmas
 mod TextLemmas

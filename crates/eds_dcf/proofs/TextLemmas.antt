@@ -1,6 +1,6 @@
 -- Texts of sections, piece by piece.
 use Rattle.std.proofs.Common.{◌≡◌, ◌==◌, ℕ, ◌+◌, ◌<◌, ◌≤◌, Bool, false, cond, codes, decimal, List, [], ◌∷◌, ◌++◌}
-use Rattle.std.proofs.Common.{length, get_or, take, Option, None, Some, filter_map, option_to_list, filter, map, not}
+use Rattle.std.proofs.Common.{length, get_or, take, Option, None, Some, filter_map, option_to_list}
 use Rattle.std.proofs.Common.{refl, sym, ap, ◌∙◌, append_assoc, append-nil, add-one}
 use Rattle.std.proofs.lemmas.Bool.{ne_eqb}
 use Rattle.std.proofs.lemmas.List.{take_all, take_more}
@@ -10,13 +10,11 @@ use Rattle.std.specs.List.{cons_option, flat_map}
 use Rattle.std.specs.Str.{byte}
 use Rattle.ini_text.specs.Content.{Pair, Section}
 use Rattle.ini_text.specs.Change.{pair_text, section_text, text_of}
-use Rattle.concise_dcf.specs.declared.write.Write.{Write}
 use Rattle.eds_device.specs.Places.{first_subs, pairs_of}
-use Rattle.eds_dcf.specs.Commissioning.{commissioning, first_spelling, is_commissioning, node_pairs, others}
+use Rattle.eds_dcf.specs.Commissioning.{commissioning, first_spelling, node_pairs, others}
 use Rattle.eds_dcf.specs.Commissioning.{others_beside, pairs_named, second_spelling}
 use Rattle.eds_dcf.specs.Compact.{made_section, new_values, value_pair, values_name, values_set}
-use Rattle.eds_dcf.specs.Dcf.{dcf_sections, made_sections, sections_with, with_values}
-use Rattle.eds_dcf.specs.Writes.{last_of}
+use Rattle.eds_dcf.specs.Dcf.{made_sections}
 use Rattle.eds_dcf.proofs.MadeLemmas.{at_first, walk_makes}
 
 -- a section is its name, and then its pairs
@@ -172,23 +170,3 @@ three_parts xs ys z a b c ha hb hc =
     ∙ ap (λ t. text_of xs ++ (text_of ys ++ t)) (sym (append-nil (section_text z)))
     ∙ sym (flat_map-append section_text xs (ys ++ z ∷ [])
     ∙ ap (λ t. text_of xs ++ t) (flat_map-append section_text ys (z ∷ [])))
-
--- the whole text
-pub whole_text : (ss : List Section) (node : ℕ) (name : List ℕ) (bitrate : ℕ) (writes : List Write)
-    (values : ℕ × ℕ → Option (List ℕ)) (seen : List Section) (start a b c : List ℕ)
-    → ((place : ℕ × ℕ) → values place ≡ last_of writes place) → seen ≡ ss → start ≡ []
-    → a ≡ start ++ text_of (map (with_values ss values) (filter (λ s. not (is_commissioning s.name)) ss))
-    → b ≡ a ++ text_of (made_sections ss values)
-    → c ≡ b ++ section_text (commissioning seen node name bitrate)
-    → c ≡ text_of (dcf_sections ss node name bitrate writes)
-unfolding dcf_sections sections_with
-whole_text ss node name bitrate writes values seen start a b c left is_seen is_start ha hb hc =
-    let same : values ≡ last_of writes = λ i place. left place i in
-    three_parts (map (with_values ss values) (filter (λ s. not (is_commissioning s.name)) ss)) (made_sections ss values)
-    (commissioning ss node name bitrate) a b c
-    (ha ∙ ap (λ t. t ++ text_of (map (with_values ss values) (filter (λ s. not (is_commissioning s.name)) ss)))
-    is_start) hb
-    (hc ∙ ap (λ s. b ++ section_text (commissioning s node name bitrate)) is_seen)
-    ∙ ap (λ (v : ℕ × ℕ → Option (List ℕ)). text_of (map (with_values ss v)
-    (filter (λ s. not (is_commissioning s.name)) ss)
-    ++ (made_sections ss v ++ commissioning ss node name bitrate ∷ []))) same

@@ -5,4 +5,5 @@ pub mod Entries
 pub mod Pairs
 pub mod Printable
 pub mod Standing
+pub mod Template
 pub mod Writes

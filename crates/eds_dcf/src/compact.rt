@@ -1,5 +1,5 @@
 //! The compact objects of a device, and the values that are set of them.
-ghost use Rattle.std.specs.Prelude.{◌≡◌, ◌++◌, ℕ, IfOk, IfSome, IsTrue, None, OnOk, option_map};
+ghost use Rattle.std.specs.Prelude.{◌≡◌, ◌++◌, ℕ, IfOk, IfSome, OnOk, option_map};
 ghost use Rattle.std.specs.FinMap.{get};
 ghost use Rattle.std.specs.List.{flat_map};
 ghost use Rattle.std.specs.Option.{option_to_list};
@@ -15,8 +15,8 @@ use crate::entry::text_of;
 use crate::printing::{put_line, put_name, put_pairs, put_settings};
 use crate::setting::Setting;
 use crate::values::{NR_OF_ENTRIES, put_values};
-use co_dict::Dict;
-use eds_device::{DataSheet, Origin, Section, compact_count, kind_of, place_named};
+use crate::written::Written;
+use eds_device::{DataSheet, Origin, Section, compact_count, kind_of};
 use plain_text::index_digits;
 use std::alloc::{AllocError, Global};
 
@@ -30,31 +30,6 @@ fn compact_object(device: &DataSheet, index: u16) -> Option<(&Section, u8)>
     Some((section, highest))
 }
 
-/// Whether sub 0 of an object stands in a section that is named for the object, as that of a VAR does:
-/// then the object isn't compact. Looked for near a position among the entries first.
-fn is_plain_object(device: &DataSheet, near: usize, index: u16) -> bool
-    ensures { IsTrue result → object_of device.now.sections index ≡ None }
-{
-    let Some(placed) = device.placed(near, index, 0) else {
-        return false;
-    };
-    let Origin::Own(section) = placed.origin else {
-        return false;
-    };
-    place_named(section.name()).is_none()
-}
-
-/// The same as `compact_object`, which most objects aren't: these are told by their sub 0, looked for
-/// near a position among the entries first.
-fn compact_object_near(device: &DataSheet, near: usize, index: u16) -> Option<(&Section, u8)>
-    ensures { option_map (λ object. (object.0.now, object.1)) result ≡ object_of device.now.sections index }
-{
-    if is_plain_object(device, near, index) {
-        return None;
-    }
-    compact_object(device, index)
-}
-
 /// Whether an entry stands in the section of a compact object.
 fn is_compact(origin: Option<Origin<'_>>) -> bool
     ensures { result ≡ is_compact_origin (option_map origin_shown origin.entry) }
@@ -66,7 +41,7 @@ fn is_compact(origin: Option<Origin<'_>>) -> bool
 fn value_setting(
     alloc: Global,
     device: &DataSheet,
-    values: &Dict,
+    values: &Written,
     index: u16,
     sub: u8,
 ) -> Result<Option<Setting>, AllocError>
@@ -98,7 +73,7 @@ fn push_some(set: &mut Vec<Setting>, setting: Option<Setting>) -> Result<(), All
 fn values_set(
     alloc: Global,
     device: &DataSheet,
-    values: &Dict,
+    values: &Written,
     index: u16,
     highest: u8,
 ) -> Result<Vec<Setting>, AllocError>
@@ -140,24 +115,26 @@ fn put_new(out: &mut Vec<u8>, alloc: Global, index: u16, set: &[Setting]) -> Res
     Ok(())
 }
 
-/// Writes the section that is made for a compact object without one, if values of it are set. The
-/// object's sub 0 is looked for near a position among the entries first.
+/// Writes the section that is made for a compact object without one, if values of it are set. An object
+/// of which none may be set isn't looked for.
 pub(crate) fn put_made(
     out: &mut Vec<u8>,
     alloc: Global,
     device: &DataSheet,
-    values: &Dict,
-    near: usize,
+    values: &Written,
     index: u16,
 ) -> Result<(), AllocError>
     requires { (place : ℕ × ℕ) → IfSome (get values.now place) (Fits (kind_at device.now.sections place)) }
     ensures { OnOk result (out.new.items ≡ out.old.items
         ++ flat_map section_text (option_to_list (made_section device.now.sections (get values.now) index))) }
 {
+    if !values.may_have(Some(index)) {
+        return Ok(());
+    }
     if device.values_section(index).is_some() {
         return Ok(());
     }
-    let Some((_, highest)) = compact_object_near(device, near, index) else {
+    let Some((_, highest)) = compact_object(device, index) else {
         return Ok(());
     };
     let set = values_set(alloc, device, values, index, highest)?;
@@ -171,7 +148,7 @@ pub(crate) fn put_values_section(
     out: &mut Vec<u8>,
     alloc: Global,
     device: &DataSheet,
-    values: &Dict,
+    values: &Written,
     section: &Section,
     index: u16,
 ) -> Result<(), AllocError>

@@ -4,11 +4,13 @@
 mod commissioning;
 mod compact;
 mod entry;
-mod last;
 pub mod laws;
 mod printing;
 mod setting;
+mod template;
 mod text;
 mod values;
+mod written;
 
+pub use template::Template;
 pub use text::dcf_text;

@@ -1,36 +1,39 @@
 //! The DCF text of a device.
-ghost use Rattle.std.specs.Prelude.{◌≡◌, ◌++◌, ℕ, All, IfOk, IfSome, OnOk, filter, map, not};
+ghost use Rattle.std.specs.Prelude.{◌≡◌, ◌++◌, ℕ, All, IfOk, IfSome, OnOk};
 ghost use Rattle.std.specs.FinMap.{get};
-ghost use Rattle.ini_text.specs.Change.{section_text, text_of};
+ghost use Rattle.std.specs.List.{flat_map};
+ghost use Rattle.ini_text.specs.Change.{text_of};
 ghost use Rattle.co_values.specs.Values.{Fits};
-ghost use Rattle.eds_dcf.specs.Commissioning.{is_commissioning as is_commissioning_name};
-ghost use Rattle.eds_dcf.specs.Dcf.{dcf_sections, made_sections, with_values};
+ghost use Rattle.eds_dcf.specs.Dcf.{dcf_sections, made_sections};
+ghost use Rattle.eds_dcf.specs.Template.{piece};
 ghost use Rattle.eds_device.specs.Described.{kind_at};
 
 use crate::commissioning::{is_commissioning, put_commissioning};
 use crate::compact::{put_made, put_values_section};
 use crate::entry::{parameter_of, put_entry};
-use crate::last::last_values;
 use crate::printing::put_section;
-use co_dict::Dict;
+use crate::written::Written;
 use concise_dcf::Write;
 use eds_device::{DataSheet, Section, values_named};
 use std::alloc::{AllocError, Global};
 
-/// Writes a section with the values. Answers a position among the entries that the next one is likely
-/// near: that of the section's entry, or `near` where it is of none.
-fn put_with_values(
+/// Writes a section with the values, unless it names the node. Answers a position among the entries that
+/// the next one is likely near: that of the section's entry, or `near` where it is of none.
+pub(crate) fn put_with_values(
     out: &mut Vec<u8>,
     alloc: Global,
     device: &DataSheet,
-    values: &Dict,
+    values: &Written,
     near: usize,
     section: &Section,
 ) -> Result<usize, AllocError>
     requires { (place : ℕ × ℕ) → IfSome (get values.now place) (Fits (kind_at device.now.sections place)) }
     ensures { OnOk result (out.new.items ≡ out.old.items
-        ++ section_text (with_values device.now.sections (get values.now) section.now)) }
+        ++ piece device.now.sections (get values.now) section.now) }
 {
+    if is_commissioning(section.name()) {
+        return Ok(near);
+    }
     if let Some(parameter) = parameter_of(device, near, section.name()) {
         let value = values.read(parameter.index, parameter.sub);
         put_entry(out, alloc, section, parameter.kind, value)?;
@@ -49,40 +52,35 @@ fn put_sections(
     out: &mut Vec<u8>,
     alloc: Global,
     device: &DataSheet,
-    values: &Dict,
+    values: &Written,
 ) -> Result<(), AllocError>
     requires { (place : ℕ × ℕ) → IfSome (get values.now place) (Fits (kind_at device.now.sections place)) }
     ensures { OnOk result (out.new.items ≡ out.old.items
-        ++ text_of (map (with_values device.now.sections (get values.now))
-        (filter (λ s. not (is_commissioning_name s.name)) device.now.sections))) }
+        ++ flat_map (piece device.now.sections (get values.now)) device.now.sections) }
 {
     let mut near = 0;
     for section in device.sections() {
-        if !is_commissioning(section.name()) {
-            near = put_with_values(out, alloc, device, values, near, section)?;
-        }
+        near = put_with_values(out, alloc, device, values, near, section)?;
     }
     Ok(())
 }
 
 /// Writes the sections that are made for compact objects, by index: each entry with sub 0 is that of
 /// an object.
-fn put_all_made(
+pub(crate) fn put_all_made(
     out: &mut Vec<u8>,
     alloc: Global,
     device: &DataSheet,
-    values: &Dict,
+    values: &Written,
 ) -> Result<(), AllocError>
     requires { (place : ℕ × ℕ) → IfSome (get values.now place) (Fits (kind_at device.now.sections place)) }
     ensures { OnOk result (out.new.items ≡ out.old.items
         ++ text_of (made_sections device.now.sections (get values.now))) }
 {
-    let mut position = 0usize;
     for (index, sub) in device.pairs() {
         if *sub == 0 {
-            put_made(out, alloc, device, values, position, *index)?;
+            put_made(out, alloc, device, values, *index)?;
         }
-        position = position.wrapping_add(1);
     }
     Ok(())
 }
@@ -107,7 +105,7 @@ pub fn dcf_text(
     ensures { IfOk result (λ text. text.items
         ≡ text_of (dcf_sections device.now.sections node name.now bitrate writes.now)) }
 {
-    let values = last_values(alloc, writes)?;
+    let values = Written::by(alloc, writes)?;
     let mut out = Vec::new(alloc);
     put_sections(&mut out, alloc, device, &values)?;
     put_all_made(&mut out, alloc, device, &values)?;

@@ -230,7 +230,12 @@ impl KeptParts {
     {
         let written = self.bring_writes(project, node, meter)?;
         let now = DcfNow::of(project, node, written);
-        self.dcf.bring(self.alloc, node, now, meter)?;
+        if self.dcf.settle(node, &now) {
+            return Ok(());
+        }
+        let template = self.template_of_now(project, node)?;
+        let now = DcfNow::with_template(now, template);
+        self.dcf.build(self.alloc, node, now, meter)?;
         Ok(())
     }
 }

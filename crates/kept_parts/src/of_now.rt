@@ -1,10 +1,12 @@
 //! Devices that are kept, for those who read the devices of a project.
-ghost use Rattle.std.specs.Prelude.{◌≡◌, IfOk, IfSome, Some};
+ghost use Rattle.std.specs.Prelude.{◌≡◌, IfOk, IfSome, Some, option_and_then};
+ghost use Rattle.co_project.specs.Tables.{node_at};
 ghost use Rattle.project_plan.specs.Network.{device_at};
 ghost use Rattle.kept_parts.specs.Kept.{IsOf};
 
 use crate::kept_parts::KeptParts;
 use co_project::Project;
+use eds_dcf::Template;
 use eds_device::DataSheet;
 use kept_values::{Shared, share_of};
 use std::alloc::AllocError;
@@ -45,5 +47,27 @@ impl KeptParts {
         }
         let device = self.devices.common(self.alloc, name)?;
         Ok(device)
+    }
+
+    /// The template of a node's device, if that is of now, and its template was asked for before.
+    pub(crate) fn template_of_now(
+        &mut self,
+        project: &Project,
+        node: u8,
+    ) -> Result<Option<Shared<Template>>, AllocError>
+        requires { IsOf project.now self.old }
+        ensures same { self.new ≡ self.old }
+        ensures value { IfOk result (λ found. IfSome found (λ t.
+            option_and_then (λ n. device_at project.now n.eds) (node_at project.now.nodes node) ≡ Some t)) }
+    {
+        let Some(known) = project.node(node) else {
+            return Ok(None);
+        };
+        let eds = known.eds.as_slice();
+        if !self.devices.is_fresh(eds) {
+            return Ok(None);
+        }
+        let template = self.devices.template(self.alloc, eds)?;
+        Ok(template)
     }
 }

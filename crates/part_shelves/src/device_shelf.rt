@@ -1,5 +1,5 @@
 //! The devices of EDS, by name.
-ghost use Rattle.std.specs.Prelude.{◌≡◌, ◌↔◌, ℕ, List, IsTrue, true, false, None, Some, Ok, IfOk, OnOk, OnErr, cond};
+ghost use Rattle.std.specs.Prelude.{◌≡◌, ◌↔◌, ℕ, List, IsTrue, true, false, None, Some, Ok, IfOk, IfSome, OnOk, OnErr, cond};
 ghost use Rattle.std.specs.Prelude.{option_copied, option_map};
 ghost use Rattle.std.specs.FinMap as map;
 ghost use Rattle.std.specs.Ordering.{eq_by_cmp};
@@ -13,6 +13,7 @@ ghost use Rattle.part_shelves.specs.Slots.{fresh_at, fresh_slot, text_kept, with
 use crate::eds_text::keep_device;
 use crate::seat::Seat;
 use co_project::Project;
+use eds_dcf::Template;
 use eds_device::DataSheet;
 use kept_values::{Meter, Shared, share_of};
 use std::alloc::{AllocError, Global};
@@ -95,7 +96,7 @@ impl DeviceShelf {
         seat.set_fresh(fresh);
     }
 
-    /// The text of a name may be another one now. What was found of its device for many nodes is let go.
+    /// The text of a name may be another one now. What was found of its device for many nodes and DCFs is let go.
     pub fn mark(&mut self, name: &[u8])
         ensures { self.new ≡ with_fresh self.old name.now false }
     {
@@ -129,6 +130,26 @@ impl DeviceShelf {
         };
         let device = seat.common(alloc)?;
         Ok(Some(device))
+    }
+
+    /// The template of the DCFs of the device of a name that is kept: it is made at the second asking, and kept
+    /// till the name is marked; at the first there is none. Takes time by the logarithm of the number of names,
+    /// and at the second asking the time of one DCF and memory by the length of the text; want of memory is the
+    /// only error.
+    pub fn template(
+        &mut self,
+        alloc: Global,
+        name: &[u8],
+    ) -> Result<Option<Shared<Template>>, AllocError>
+        ensures same { self.new ≡ self.old }
+        ensures template { IfOk result (λ t. IfSome t (λ t.
+            option_map content_of (text_kept self.old name.now) ≡ Some t)) }
+    {
+        let Some(seat) = self.slots.get_mut(name) else {
+            return Ok(None);
+        };
+        let template = seat.template(alloc)?;
+        Ok(template)
     }
 
     /// The device of a name that is kept, shared: where many build from it as `common` gives it, else as

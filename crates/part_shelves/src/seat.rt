@@ -1,21 +1,25 @@
 //! A slot, with the device for many nodes.
-ghost use Rattle.std.specs.Prelude.{◌≡◌, IfOk, true};
+ghost use Rattle.std.specs.Prelude.{◌≡◌, IfOk, IfSome, true};
 ghost use Rattle.ini_text.specs.Content.{content_of};
 ghost use Rattle.part_shelves.specs.Slots.{fresh_slot};
 
 use crate::device_slot::DeviceSlot;
 use crate::eds_text::EdsText;
+use eds_dcf::Template;
 use eds_device::DataSheet;
 use kept_values::{Kept, Shared};
 use std::alloc::{AllocError, Global};
 use std::marker::Model;
 
 /// A device that is kept. Once it was asked for, and until the text may be another one, the same device stands
-/// beside it with what it has alike at every node.
+/// beside it with what it has alike at every node; and once it was asked for twice, the template of its DCFs.
 #[derive(Drop)]
 pub struct Seat {
     slot: DeviceSlot,
     common: Option<Shared<DataSheet>>,
+    /// Whether a template was asked for.
+    asked: bool,
+    template: Option<Shared<Template>>,
 }
 
 impl Model for Seat {
@@ -27,7 +31,8 @@ impl Model for Seat {
 
     ghost view = { λ s. s.slot };
 
-    ghost invariant = { λ s. IfSome s.common (λ d. d ≡ content_of s.slot.kept) };
+    ghost invariant = { λ s. IfSome s.common (λ d. d ≡ content_of s.slot.kept)
+        × IfSome s.template (λ t. t ≡ content_of s.slot.kept) };
 }
 
 impl Seat {
@@ -38,6 +43,8 @@ impl Seat {
         Seat {
             slot: DeviceSlot { kept, fresh: true },
             common: None,
+            asked: false,
+            template: None,
         }
     }
 
@@ -62,12 +69,14 @@ impl Seat {
         self.slot.kept.value()
     }
 
-    /// Sets or takes the mark. With a mark the device for many nodes goes.
+    /// Sets or takes the mark. With a mark the device for many nodes and the template go.
     pub fn set_fresh(&mut self, fresh: bool)
         ensures { self.new ≡ record self.old { fresh = fresh } }
     {
         if !fresh {
             self.common = None;
+            self.asked = false;
+            self.template = None;
         }
         self.slot.fresh = fresh;
     }
@@ -86,5 +95,27 @@ impl Seat {
         let common = device.share()?;
         self.common = Some(common);
         Ok(device)
+    }
+
+    /// The template of the device's DCFs, which is made at the second asking: at the first there is none, since
+    /// one DCF alone is made at less cost without. Want of memory is the only error.
+    pub fn template(&mut self, alloc: Global) -> Result<Option<Shared<Template>>, AllocError>
+        ensures same { self.new ≡ self.old }
+        ensures template { IfOk result (λ t. IfSome t (λ t. t ≡ content_of self.old.kept)) }
+    {
+        if let Some(template) = &self.template {
+            let template = template.share()?;
+            return Ok(Some(template));
+        }
+        if !self.asked {
+            self.asked = true;
+            return Ok(None);
+        }
+        let device = self.device().pointer()?;
+        let template = Template::of(alloc, device)?;
+        let template = Shared::new(alloc, template)?;
+        let kept = template.share()?;
+        self.template = Some(kept);
+        Ok(Some(template))
     }
 }

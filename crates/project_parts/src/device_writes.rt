@@ -4,6 +4,7 @@ ghost use Rattle.ini_text.specs.Change.{text_of};
 ghost use Rattle.eds_dcf.specs.Dcf.{dcf_sections};
 ghost use Rattle.project_parts.specs.Written.{AreValuesOf};
 
+use eds_dcf::Template;
 use eds_device::DataSheet;
 use kept_values::Shared;
 use project_plan::NodeWrites;
@@ -81,6 +82,25 @@ impl DeviceWrites {
     {
         let writes = self.writes.get().as_slice();
         let text = eds_dcf::dcf_text(alloc, self.device.get(), node, name, rate, writes)?;
+        Ok(text)
+    }
+
+    /// The same by a template of the device, in which only sections of objects to which writes are, and a few
+    /// more, are looked at.
+    pub fn dcf_text_by(
+        &self,
+        alloc: Global,
+        template: &Template,
+        node: u8,
+        name: &[u8],
+        rate: u16,
+    ) -> Result<Vec<u8>, AllocError>
+        requires { template.now ≡ self.now.device }
+        ensures { IfOk result (λ text. text.items
+            ≡ text_of (dcf_sections self.now.device.sections node name.now rate self.now.writes)) }
+    {
+        let writes = self.writes.get().as_slice();
+        let text = template.dcf_text(alloc, node, name, rate, writes)?;
         Ok(text)
     }
 }

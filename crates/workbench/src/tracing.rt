@@ -14,7 +14,7 @@ use co_segments::Store;
 use kept_values::Meter;
 use network_image::NetworkParts;
 use std::alloc::{AllocError, Global};
-use trace_text::TraceText;
+use trace_spans::TraceText;
 
 /// The trace of the network of a project with its text, by its parts and the segments that are kept. Want of memory is the
 /// only error; other segments may then be held, each of them valid.

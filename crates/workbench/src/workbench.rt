@@ -29,7 +29,7 @@ use project_parts::{Diagnostics, Part};
 use project_script::script_text;
 use std::alloc::{AllocError, Global};
 use std::marker::Model;
-use trace_text::TraceText;
+use trace_spans::TraceText;
 
 /// The segments of traces that are kept at most.
 const CAPACITY: usize = 2048;

@@ -8,7 +8,7 @@ loop-place-preserved c =
     let ds = c.args.devices.now in
     let i = c.loop-place.place in
     let none = without_power false 0 in
-    one_more c.loop-place.all _ c.and-all.result ds i none c.loop-place-test.true c.and-all.ensures
+    one_more c.loop-place.all _ c.add.new.self ds i none c.loop-place-test.true c.add.ensures
     c.loop-place.invariant (outlook_at c.args.each.now ds i _ none c.loop-place-test.true c.requires)
 
 pub bounds-each-place : goal.bounds-each-place

@@ -3,7 +3,7 @@ use Rattle.std.proofs.lemmas.List.{drop-set-lt}
 use Rattle.image_parts.proofs.RecordLemmas.{lasts_in_turn}
 use Rattle.device_agenda.specs.Agenda.{at_instant}
 use Rattle.image_parts.proofs.EachLemmas.{each_state, each_noted, each_counted}
-use Rattle.bus_devices.proofs.OutlookLemmas.{deaf_at, deaf_set, enough, outlook_at, outlook_set, same_behind}
+use Rattle.bus_devices.proofs.OutlookLemmas.{deaf_at, enough, outlook_at, outlook_set, ran_deaf, same_behind}
 use Rattle.bus_devices.proofs.StillLemmas.{neither, set_as_it_was}
 use Rattle.bus_devices.proofs.block.run_each.Goals as goal
 
@@ -32,7 +32,7 @@ loop-place-preserved g c =
           let both = neither c.loop-place.ran c.in_ok-had_to.had_to none in
           set_as_it_was ss i d t (e.still both.1) ∙ old.still both.0;
       outlooks = outlook_set c.loop-place.outlooks ss i c.run_one.new.outlook t e.outlook old.outlooks;
-      deaf = deaf_set c.run_one.new.low_bytes ss i t (e.own (deaf_at c.loop-place.low_bytes ss i d within old.deaf))
+      deaf = ran_deaf c.run_one.new.low_bytes ss i t (e.own (deaf_at c.loop-place.low_bytes ss i d within old.deaf))
           (e.deaf ss old.deaf);
       behind = drop-set-lt (i + 1) ss i t (omega arith) ∙ same_behind ss c.args.devices.now i old.behind;
     }

@@ -12,7 +12,7 @@ returns c = λ ds known.
 
 pub loop-block-preserved : goal.loop-block-preserved
 loop-block-preserved c = λ ds known.
-    one_block_known (IsOutlookOf c.loop-block.all) (IsOutlookOf c.and-all.result) _ c.args.blocks.now
+    one_block_known (IsOutlookOf c.loop-block.all) (IsOutlookOf c.add.new.self) _ c.args.blocks.now
     c.loop-block.block-index ds c.loop-block-test.true
-    (λ before others seen block. c.and-all.ensures before others seen block.outlook)
+    (λ before others seen block. c.add.ensures before others seen block.outlook)
     (c.loop-block.invariant ds known)

@@ -1,7 +1,7 @@
 use Rattle.std.proofs.Common.{List, ℕ, ◌≡◌, ◌+◌, refl, sym, ap, subst, ◌∙◌, arith}
 use Rattle.can_bus.specs.Bus.{Bus}
 use Rattle.can_bus.specs.declared.line.Line.{Line}
-use Rattle.recorded_spans.specs.Reads.{Recorded}
+use Rattle.trace_spans.specs.Reads.{Recorded}
 use Rattle.kept_shelf.specs.Shelves.{Shelved}
 use Rattle.co_segments.specs.declared.stock.Stock.{Stock}
 use Rattle.co_segments.specs.Placed.{IsEndNumber, Numbered, Placed, placed_of}

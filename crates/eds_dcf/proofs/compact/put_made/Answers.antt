@@ -1,11 +1,17 @@
-use Rattle.std.proofs.Common.{◌++◌, ap, is_some, sym, option_map, option_to_list, ◌∙◌}
+use Rattle.std.proofs.Common.{◌++◌, ap, is_some, refl, sym, option_map, option_to_list, ◌∙◌}
 use Rattle.std.specs.FinMap.{get}
 use Rattle.std.specs.List.{flat_map}
 use Rattle.ini_text.specs.Change.{section_text}
 use Rattle.eds_dcf.specs.Compact.{new_values}
 use Rattle.eds_dcf.proofs.EntryLemmas.{is_some_copied, made_of_compact, not_made_beside, not_made_of_others}
+use Rattle.eds_dcf.proofs.PieceLemmas.{none_made}
 use Rattle.eds_dcf.proofs.TextLemmas.{nothing_more}
 use Rattle.eds_dcf.proofs.compact.put_made.Goals as goal
+
+pub returns-then-not-may_have : goal.returns-then-not-may_have
+returns-then-not-may_have c =
+    nothing_more _ _ (none_made c.args.device.now.sections (get c.args.values.now) c.args.index (λ sub.
+    c.may_have.ensures c.if-not-may_have.true c.args.index sub refl))
 
 pub returns-then-is_some : goal.returns-then-is_some
 returns-then-is_some c =
@@ -18,7 +24,7 @@ returns-in_default c =
     nothing_more _ _ (not_made_of_others c.args.device.now.sections (get c.args.values.now) c.args.index
     (sym (ap is_some c.values_section.ensures) ∙ is_some_copied c.values_section.result ∙ sym c.is_some.ensures
     ∙ c.if-is_some.false)
-    (sym c.compact_object_near.ensures ∙ ap (option_map (λ object. (object.0.now, object.1))) c.in_default.is))
+    (sym c.compact_object.ensures ∙ ap (option_map (λ object. (object.0.now, object.1))) c.in_default.is))
 
 pub returns : goal.returns
 returns c =
@@ -30,4 +36,4 @@ returns c =
     c.in-Some.highest
     (sym (ap is_some c.values_section.ensures) ∙ is_some_copied c.values_section.result ∙ sym c.is_some.ensures
     ∙ c.if-is_some.false)
-    (sym c.compact_object_near.ensures ∙ ap (option_map (λ object. (object.0.now, object.1))) c.in-Some.is))
+    (sym c.compact_object.ensures ∙ ap (option_map (λ object. (object.0.now, object.1))) c.in-Some.is))

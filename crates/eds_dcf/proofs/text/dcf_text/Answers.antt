@@ -1,10 +1,10 @@
 use Rattle.std.specs.FinMap.{get}
 use Rattle.eds_dcf.proofs.EntryLemmas.{all_short, left_fits}
-use Rattle.eds_dcf.proofs.TextLemmas.{whole_text}
+use Rattle.eds_dcf.proofs.PieceLemmas.{whole_text}
 use Rattle.eds_dcf.proofs.text.dcf_text.Goals as goal
 
-pub last_values-requires : goal.last_values-requires
-last_values-requires c = all_short c.args.device.now.sections c.args.writes.now c.requires
+pub by-requires : goal.by-requires
+by-requires c = all_short c.args.device.now.sections c.args.writes.now c.requires
 
 pub put_sections-requires : goal.put_sections-requires
 put_sections-requires c = left_fits c.args.device.now.sections c.args.writes.now (get c.in_ok-values.values) c.requires

@@ -5,9 +5,16 @@ use Rattle.co_values.specs.Values.{Fits}
 use Rattle.ini_text.specs.Change.{section_text}
 use Rattle.ini_text.specs.Content.{Pair}
 use Rattle.eds_device.specs.Names.{values_named}
+use Rattle.eds_dcf.specs.Commissioning.{is_commissioning}
 use Rattle.eds_dcf.specs.Entries.{parameter_place}
 use Rattle.eds_dcf.proofs.EntryLemmas.{read_fits, with_compact, with_none, with_parameter}
+use Rattle.eds_dcf.proofs.PieceLemmas.{piece_is, piece_of_node}
 use Rattle.eds_dcf.proofs.text.put_with_values.Goals as goal
+
+pub returns-then-is_commissioning : goal.returns-then-is_commissioning
+returns-then-is_commissioning c =
+    piece_of_node c.args.device.now.sections (get c.args.values.now) c.args.section.now _
+    (ap is_commissioning (sym c.name.ensures) ∙ sym c.is_commissioning.ensures ∙ c.if-is_commissioning.true)
 
 pub put_entry-requires : goal.put_entry-requires
 put_entry-requires c =
@@ -24,8 +31,11 @@ returns-in-Some c =
     ++ section_text (record { name = c.args.section.now.name; pairs = pairs }))
     (with_parameter c.args.device.now.sections (get c.args.values.now) c.args.section.now place
     c.in-Some.parameter.kind _
-    (sym (ap (parameter_place c.args.device.now.sections) c.name.ensures) ∙ sym c.in-Some.ensures.place)
+    (sym (ap (parameter_place c.args.device.now.sections) c.name-2.ensures) ∙ sym c.in-Some.ensures.place)
     c.in-Some.ensures.kind c.read-value.ensures.value)
+    ∙ ap (λ t. c.args.out.now.items ++ t) (piece_is c.args.device.now.sections (get c.args.values.now)
+    c.args.section.now (ap is_commissioning (sym c.name.ensures) ∙ sym c.is_commissioning.ensures
+    ∙ c.if-is_commissioning.false))
 
 pub returns-in-Some-values_named : goal.returns-in-Some-values_named
 returns-in-Some-values_named c =
@@ -33,8 +43,11 @@ returns-in-Some-values_named c =
     ∙ ap (λ (pairs : List Pair). c.args.out.now.items
     ++ section_text (record { name = c.args.section.now.name; pairs = pairs }))
     (with_compact c.args.device.now.sections (get c.args.values.now) c.args.section.now c.in-Some-values_named.index
-    (sym (ap (parameter_place c.args.device.now.sections) c.name.ensures) ∙ sym c.in_default.ensures.place)
-    (sym (ap values_named c.name-2.ensures) ∙ sym c.values_named.ensures ∙ c.in-Some-values_named.is))
+    (sym (ap (parameter_place c.args.device.now.sections) c.name-2.ensures) ∙ sym c.in_default.ensures.place)
+    (sym (ap values_named c.name-3.ensures) ∙ sym c.values_named.ensures ∙ c.in-Some-values_named.is))
+    ∙ ap (λ t. c.args.out.now.items ++ t) (piece_is c.args.device.now.sections (get c.args.values.now)
+    c.args.section.now (ap is_commissioning (sym c.name.ensures) ∙ sym c.is_commissioning.ensures
+    ∙ c.if-is_commissioning.false))
 
 pub returns : goal.returns
 returns c =
@@ -42,5 +55,8 @@ returns c =
     ∙ ap (λ (pairs : List Pair). c.args.out.now.items
     ++ section_text (record { name = c.args.section.now.name; pairs = pairs }))
     (with_none c.args.device.now.sections (get c.args.values.now) c.args.section.now
-    (sym (ap (parameter_place c.args.device.now.sections) c.name.ensures) ∙ sym c.in_default.ensures.place)
-    (sym (ap values_named c.name-2.ensures) ∙ sym c.values_named.ensures ∙ c.in_default-values_named.is))
+    (sym (ap (parameter_place c.args.device.now.sections) c.name-2.ensures) ∙ sym c.in_default.ensures.place)
+    (sym (ap values_named c.name-3.ensures) ∙ sym c.values_named.ensures ∙ c.in_default-values_named.is))
+    ∙ ap (λ t. c.args.out.now.items ++ t) (piece_is c.args.device.now.sections (get c.args.values.now)
+    c.args.section.now (ap is_commissioning (sym c.name.ensures) ∙ sym c.is_commissioning.ensures
+    ∙ c.if-is_commissioning.false))

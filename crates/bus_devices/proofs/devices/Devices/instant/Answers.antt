@@ -1,11 +1,12 @@
 use Rattle.std.proofs.Common.{sym, ◌∙◌}
 use Rattle.device_agenda.proofs.SleepLemmas.{nothing_happens}
+use Rattle.device_agenda.specs.Alarms.{agenda_by}
 use Rattle.bus_devices.proofs.IdleLemmas.{idle_asked, idle_state}
 use Rattle.bus_devices.proofs.devices.Devices.instant.Goals as goal
 
 pub returns-then-sleeps_through-clause-ran : goal.returns-then-sleeps_through-clause-ran
 returns-then-sleeps_through-clause-ran g c =
-    let agenda = c.self.inside.all.agenda in
+    let agenda = agenda_by c.self.inside.all.alarm in
     let items = c.self.inside.devices.items in
     let bound = c.sleeps_through.ensures.bound c.if-sleeps_through.true in
     let known = (c.self.invariant c.if-self.true).all.agenda in

@@ -2,6 +2,7 @@ use Rattle.std.proofs.Common.{◌≡◌, ◌<◌, false, length, List, slice_set
 use Rattle.bus_devices.specs.Blocks.{AreBlocksOf, IsDueAsBefore}
 use Rattle.bus_devices.specs.Places.{device_at}
 use Rattle.co_device.specs.Device.{without_power}
+use Rattle.device_agenda.specs.Alarms.{agenda_by}
 use Rattle.bus_devices.proofs.SentLemmas.{agenda_set, sent_from, written_back}
 use Rattle.bus_devices.specs.declared.block.Block.{Block}
 use Rattle.bus_devices.proofs.devices.Devices.send.Goals as goal
@@ -39,7 +40,7 @@ invariant_of-self-then-known c =
     λ known. record {
       each = subst (λ (blocks : List Block). AreBlocksOf blocks ds) c.deref-then-known.ensures.value each;
       all = record {
-        agenda = agenda_set c.send.new.self (without_power false 0) c.self.inside.all.agenda old c.args.i due
+        agenda = agenda_set c.send.new.self (without_power false 0) (agenda_by c.self.inside.all.alarm) old c.args.i due
             (c.self.invariant c.if-known.true).all.agenda;
         best = c.best_of-self-inside.ensures ds each;
       };

@@ -1,0 +1,22 @@
+use Rattle.std.proofs.Common.{◌<◌, false, length, arith, rules}
+use Rattle.co_device.specs.Device.{without_power}
+use Rattle.bus_devices.proofs.OutlookLemmas.{best_more, enough, outlook_at}
+use Rattle.bus_devices.proofs.block.best_of_each.Goals as goal
+
+pub loop-place-preserved : goal.loop-place-preserved
+loop-place-preserved c =
+    let ds = c.args.devices.now in
+    let i = c.loop-place.place in
+    let none = without_power false 0 in
+    best_more c.loop-place.best _ c.keep_lower.new.best ds i none c.loop-place-test.true c.loop-place.invariant
+    (outlook_at c.args.each.now ds i _ none c.loop-place-test.true c.requires).best c.keep_lower.ensures
+
+pub bounds-each-place : goal.bounds-each-place
+bounds-each-place c =
+    let many = enough c.args.each.now c.args.devices.now c.requires in omega (arith, many)
+
+pub offset_bounds-each-place : goal.offset_bounds-each-place
+offset_bounds-each-place c =
+    let many = enough c.args.each.now c.args.devices.now c.requires in
+    let within : c.loop-place.place < length c.args.each.now = omega (arith, many) in
+    search rules

@@ -1,5 +1,0 @@
-pub mod SpanLemmas
-mod MatchLemmas
-pub mod NumberLemmas
-pub mod KnownLemmas
-pub mod OnceLemmas

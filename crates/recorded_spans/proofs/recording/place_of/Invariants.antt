@@ -1,7 +1,0 @@
-use Rattle.std.proofs.Common.{take}
-use Rattle.recorded_spans.specs.Records.{IsNewAmong}
-use Rattle.recorded_spans.proofs.recording.place_of.Given as goal
-
--- it is none of those so far
-abbrev pub invariant-loop-place : goal.invariant-loop-place
-invariant-loop-place l = IsNewAmong l.name (take l.place l.reads)

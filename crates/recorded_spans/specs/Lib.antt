@@ -1,4 +1,0 @@
-pub mod Spans
-pub mod Numbers
-pub mod Reads
-pub mod Records

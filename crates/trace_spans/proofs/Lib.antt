@@ -1,0 +1,6 @@
+pub mod SpanLemmas
+mod MatchLemmas
+pub mod NumberLemmas
+pub mod KnownLemmas
+pub mod OnceLemmas
+pub mod PassageLemmas

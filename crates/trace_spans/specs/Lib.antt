@@ -1,0 +1,5 @@
+pub mod Spans
+pub mod Numbers
+pub mod Reads
+pub mod Records
+pub mod Passages
