@@ -1,6 +1,12 @@
+pub mod Blanks
 pub mod Bytes
+pub mod Digits
 pub mod Gives
+pub mod Hex
+pub mod Lines
 pub mod Moments
 pub mod Ranges
+pub mod Replies
 pub mod Steps
 pub mod Tables
+pub mod Words

@@ -21,7 +21,7 @@ use Rattle.device_agenda.specs.LowBytes.{AreDeafBeyond, IsDeafBeyond}
 use Rattle.device_agenda.specs.declared.agenda.Agenda.{Agenda}
 use Rattle.device_agenda.specs.declared.low_bytes.LowBytes.{LowBytes}
 use Rattle.device_agenda.proofs.AgendaLemmas.{sent_deaf_beyond, sent_sleeps}
-use Rattle.device_laws.proofs.RestLemmas.{sent_moments}
+use Rattle.device_agenda.proofs.RestLemmas.{sent_moments}
 
 -- ---- one device
 

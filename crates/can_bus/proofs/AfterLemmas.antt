@@ -25,11 +25,11 @@ use Rattle.co_scenario.specs.declared.step.Step.{Step}
 use Rattle.co_scenario.specs.declared.step.Step.TheVariants.{Set, Power, Nmt}
 use Rattle.co_scenario.specs.declared.timed_step.TimedStep.{TimedStep}
 use Rattle.device_agenda.specs.Agenda.{hears}
-use Rattle.device_laws.specs.Ahead.{AreAhead, IsAhead, NotBefore}
-use Rattle.device_laws.specs.Rest.{Rests}
-use Rattle.device_laws.proofs.AheadLemmas.{frame_ahead, power_ahead, set_ahead}
-use Rattle.device_laws.proofs.CaseLemmas.{one_of}
-use Rattle.device_laws.proofs.RestLemmas.{ran_after, ran_rests}
+use Rattle.device_agenda.specs.Ahead.{AreAhead, IsAhead, NotBefore}
+use Rattle.device_agenda.specs.Rest.{Rests}
+use Rattle.device_agenda.proofs.AheadLemmas.{frame_ahead, power_ahead, set_ahead}
+use Rattle.device_agenda.proofs.CaseLemmas.{one_of}
+use Rattle.device_agenda.proofs.RestLemmas.{ran_after, ran_rests}
 use Rattle.nmt_boot.proofs.MomentLemmas.{command_ahead, due_later as timers_later, frame_ahead as manager_frame_ahead}
 use Rattle.nmt_boot.specs.Ahead.{IsAhead as IsManagerAhead}
 use Rattle.nmt_boot.specs.Manager as manager

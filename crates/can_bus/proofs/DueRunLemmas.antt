@@ -17,7 +17,7 @@ use Rattle.image_parts.specs.Images.{IsImage, IsRoster}
 use Rattle.cia301.specs.Limits.{bit_rates}
 use Rattle.image_parts.specs.declared.part.Part.TheVariants.{Roster}
 use Rattle.image_parts.specs.declared.roster.Roster.{Roster as Network}
-use Rattle.device_laws.specs.Rest.{Rests}
+use Rattle.device_agenda.specs.Rest.{Rests}
 use Rattle.can_bus.specs.Bus.{Bus, instant, power_on, bus_with_power, without_power}
 use Rattle.can_bus.specs.Dues.{IsAtRest, IsJustBefore, due_run, least, moments, next_due}
 use Rattle.can_bus.specs.Runs.{run}

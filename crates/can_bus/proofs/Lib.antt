@@ -16,3 +16,4 @@ pub mod AfterLemmas
 pub mod DueRunLemmas
 pub mod FirstTimeLemmas
 pub mod LeastLemmas
+pub mod SpanLemmas

@@ -12,8 +12,8 @@ use Rattle.can_frame.specs.declared.waiting.Waiting.{Waiting}
 use Rattle.co_device.specs.Device as device
 use Rattle.co_device.specs.Device.{Device, after_instant}
 use Rattle.co_scenario.specs.declared.timed_step.TimedStep.{TimedStep}
-use Rattle.device_laws.proofs.RestLemmas.{quiet_at_rest}
-use Rattle.device_laws.specs.Rest.{Rests}
+use Rattle.device_agenda.proofs.RestLemmas.{quiet_at_rest}
+use Rattle.device_agenda.specs.Rest.{Rests}
 use Rattle.nmt_boot.proofs.MomentLemmas.{quiet as quiet_timers}
 use Rattle.nmt_boot.specs.Ahead.{IsAhead}
 use Rattle.nmt_boot.specs.Manager.{Manager}

@@ -7,7 +7,7 @@ use Rattle.image_parts.specs.declared.part.Part.{Part}
 use Rattle.co_scenario.specs.declared.timed_step.TimedStep.{TimedStep}
 use Rattle.co_device.specs.Device as device
 use Rattle.nmt_boot.specs.Manager as manager
-use Rattle.device_laws.specs.Rest.{Rests}
+use Rattle.device_agenda.specs.Rest.{Rests}
 use Rattle.can_bus.specs.Bus.{Bus, instant, power_on}
 use Rattle.can_bus.specs.Runs.{IsInTime, IsSettled}
 use Rattle.can_bus.specs.declared.line.Line.{Line}

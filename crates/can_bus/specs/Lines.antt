@@ -3,8 +3,8 @@ use Rattle.std.specs.Prelude.{ℕ, ◌/◌, ◌%◌, List, [], ◌∷◌, ◌++�
 use Rattle.std.specs.List.{flat_map}
 use Rattle.std.specs.Str.{byte}
 use Rattle.can_frame.specs.TraceLines.{frame_line, ten_digits}
-use Rattle.plain_text.specs.Digits.{index_digits}
-use Rattle.plain_text.specs.Lines.{line_feed}
+use Rattle.base.specs.Digits.{index_digits}
+use Rattle.base.specs.Lines.{line_feed}
 use Rattle.node_boot.specs.declared.note_kind.NoteKind.{NoteKind}
 use Rattle.node_boot.specs.declared.note_kind.NoteKind.TheVariants.{Lost, Configured, Difference, Aborted, TimedOut}
 use Rattle.node_boot.specs.declared.note.Note.{Note as Noted}

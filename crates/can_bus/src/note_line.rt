@@ -3,10 +3,10 @@
 ghost use Rattle.std.specs.Prelude.{◌≡◌, ◌++◌, OnOk};
 ghost use Rattle.can_bus.specs.Lines.{abort_digits, note_line as line_of_note, kind_text};
 
+use base::index_digits;
 use can_frame::write_time;
 use co_dict::Abort;
 use node_boot::{Note, NoteKind};
-use plain_text::index_digits;
 use std::alloc::{AllocError, Global};
 
 /// Writes the line of a note at a time in microseconds: the time in ten digits, the node, and what is noted of

@@ -13,8 +13,8 @@ use Rattle.std.proofs.lemmas.List.{length-append, length-replicate, length-set, 
 use Rattle.std.proofs.lemmas.List.Concat.{flat_map-append}
 use Rattle.std.proofs.lemmas.Option.{same_Some}
 use Rattle.base.specs.Bytes.{AreBytes}
-use Rattle.plain_text.specs.Digits.{byte_digits, digits_number, identifier_digits}
-use Rattle.plain_text.proofs.DigitLemmas.{byte_again, digit_value-glyph}
+use Rattle.base.specs.Digits.{byte_digits, digits_number, identifier_digits}
+use Rattle.base.proofs.DigitLemmas.{byte_again, digit_value-glyph}
 use Rattle.can_frame.specs.Frames.{BaseFrame, IsFrame}
 use Rattle.can_frame.specs.TraceLines.{byte_count, frame_line, spaced_bytes, ten_digits}
 

@@ -3,7 +3,7 @@ use Rattle.std.specs.Prelude.{ℕ, ◌-◌, true, List, ◌∷◌, ◌++◌, len
 use Rattle.std.specs.Fmt.{digit_glyph}
 use Rattle.std.specs.List.{flat_map}
 use Rattle.std.specs.Str.{byte}
-use Rattle.plain_text.specs.Digits.{byte_digits, identifier_digits}
+use Rattle.base.specs.Digits.{byte_digits, identifier_digits}
 use Rattle.can_frame.specs.Frames.{BaseFrame}
 
 -- a number in ten decimal digits: 0 for each that it lacks

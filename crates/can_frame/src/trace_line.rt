@@ -1,11 +1,11 @@
 //! The line of a frame in a trace.
 ghost use Rattle.std.specs.Prelude.{◌≡◌, ◌<◌, ◌≤◌, ◌+◌, ◌*◌, ◌++◌, ◌∷◌, length, take, IfOk, OnOk};
 ghost use Rattle.std.specs.Str.{byte};
-ghost use Rattle.plain_text.specs.Digits.{identifier_digits};
+ghost use Rattle.base.specs.Digits.{identifier_digits};
 ghost use Rattle.can_frame.specs.TraceLines.{byte_count, frame_line, spaced_bytes, ten_digits};
 
 use crate::frame::Frame;
-use plain_text::{byte_digits, identifier_digits, upper_digit};
+use base::{byte_digits, identifier_digits, upper_digit};
 use std::alloc::{AllocError, Global};
 
 /// That of a frame of 8 bytes has as many bytes.

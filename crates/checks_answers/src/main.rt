@@ -11,8 +11,8 @@ mod stored;
 mod wrong;
 
 use anyhow::Result;
+use base::split_once;
 use desk::Desk;
-use plain_text::split_once;
 use std::alloc::Global;
 use std::io;
 use std::io::Write;

@@ -1,11 +1,12 @@
 //! What is wrong with a project.
 
 use anyhow::Result;
+use base::share_of;
 use co_diag::diagnostics;
 use co_project::Project;
 use diag_lines::Diag;
 use kept_parts::KeptParts;
-use kept_values::{Meter, share_of};
+use kept_values::Meter;
 use project_parts::Part;
 use std::alloc::{AllocError, Global};
 use std::io::Write;

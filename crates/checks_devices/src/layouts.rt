@@ -2,8 +2,7 @@
 ghost use Rattle.std.specs.Prelude.{IfSome};
 ghost use Rattle.project_messages.specs.Messages.{IsMessage};
 
-use base::Octets;
-use plain_text::{next_word, read_digits};
+use base::{Octets, next_word, read_digits};
 use project_messages::{Message, Messages};
 use std::alloc::{AllocError, Global};
 

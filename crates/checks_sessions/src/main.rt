@@ -3,13 +3,9 @@
 //!
 //! A line `=== title` begins a session, whose input is the lines up to the next such line, byte for
 //! byte. After a line `===- title` the last LF is no part of the input.
-//!
-//! Its tests show what no session does: the program's words, FILE, streams that fail, texts and exit statuses.
 #![tactic(auto)]
 
 mod echo;
-#[cfg(test)]
-mod program;
 mod recorded;
 
 use anyhow::Result;

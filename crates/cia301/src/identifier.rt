@@ -4,7 +4,7 @@ ghost use Rattle.std.proofs.Common.{rules};
 ghost use Rattle.std.specs.Cmp as Cmp;
 ghost use Rattle.std.specs.Cmp.Rules.{comparing};
 ghost use Rattle.std.specs.Ordering.{nat_cmp, as_partial_cmp};
-ghost use Rattle.plain_text.specs.Digits.{identifier_digits};
+ghost use Rattle.base.specs.Digits.{identifier_digits};
 ghost use Rattle.cia301.specs.CobIds.{identifier_in, is_restricted as is_restricted_id};
 
 use std::cmp::Ordering;
@@ -69,7 +69,7 @@ impl Identifier {
     pub fn digits(&self) -> [u8; 3]
         ensures { result ≡ identifier_digits self.now }
     {
-        plain_text::identifier_digits(self.number)
+        base::identifier_digits(self.number)
     }
 }
 

@@ -11,9 +11,8 @@ ghost use Rattle.co_project.specs.Sound.{IsSound};
 
 use crate::contents::Contents;
 use crate::node::Node;
-use base::Octets;
+use base::{Octets, Shared};
 use co_scenario::Script;
-use kept_values::Shared;
 use project_messages::Messages;
 use script_commands::{Command, EditFault, ManagerSettings, ScriptVersion};
 use std::alloc::{AllocError, Global};

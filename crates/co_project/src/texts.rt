@@ -4,8 +4,7 @@ ghost use Rattle.std.specs.FinMap as map;
 ghost use Rattle.project_messages.specs.Messages.{by_name};
 ghost use Rattle.co_project.specs.Tables.{text_at, has_no_room};
 
-use base::Octets;
-use kept_values::Shared;
+use base::{Octets, Shared};
 use std::alloc::{AllocError, Global};
 use std::collections::BTreeMap;
 use std::collections::btree_map::Iter;

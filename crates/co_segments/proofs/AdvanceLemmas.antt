@@ -14,7 +14,7 @@ use Rattle.co_segments.specs.Stocks.{AreSegments, StandsAt, held_in}
 -- memory ran out
 pub goes_wrong : {P E : Type 0} {asked : Asked P Part Content} {number : ℕ} {here : Bus} {looked_at : List Kept}
     {old new : Progress P} {result : Result Reached E} → IsErr result → AreSegments new.stock
-    → new.stock.shelf.capacity ≡ old.stock.shelf.capacity
+    → new.stock.recent.capacity ≡ old.stock.recent.capacity
     → (asked.seen new.parts).image ≡ (asked.seen old.parts).image → Rises old.work new.work
     → Goes asked number here looked_at old new result
 goes_wrong {asked = asked} {number = number} {here = here} {looked_at = looked_at} {old = old} {new = new}
@@ -31,7 +31,7 @@ goes_wrong {asked = asked} {number = number} {here = here} {looked_at = looked_a
 -- the same from an earlier point, before some segments were looked at
 pub goes_from : {P E : Type 0} {asked : Asked P Part Content} {number : ℕ} {here : Bus} {some looked_at : List Kept}
     {old between new : Progress P} {result : Result Reached E} → Goes asked number here some between new result
-    → held_in between.stock ≡ held_in old.stock → between.stock.shelf.capacity ≡ old.stock.shelf.capacity
+    → held_in between.stock ≡ held_in old.stock → between.stock.recent.capacity ≡ old.stock.recent.capacity
     → between.telling.told ≡ old.telling.told → between.work ≡ old.work
     → (asked.seen between.parts).image ≡ (asked.seen old.parts).image
     → asked.asks between.parts + recorded_of number some ≤ asked.asks old.parts + recorded_of number looked_at

@@ -8,7 +8,7 @@ use Rattle.std.proofs.lemmas.List.{drop_more}
 use Rattle.std.proofs.lemmas.Option.{get_or_from_slice_get, none-some, same_Some, slice_get_within}
 use Rattle.can_bus.specs.Bus.{Bus}
 use Rattle.image_parts.specs.Contents.{Image}
-use Rattle.kept_shelf.proofs.EntryLemmas.{head_in, tail_in}
+use Rattle.kept_values.proofs.EntryLemmas.{head_in, tail_in}
 use Rattle.co_segments.specs.Placed.{Placed, kept_of, entries_of_number}
 use Rattle.co_segments.specs.Segments.{IsStale, Serves, recorded_of}
 use Rattle.co_segments.proofs.PlacedLemmas.{one_stale}

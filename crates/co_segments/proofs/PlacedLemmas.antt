@@ -5,7 +5,7 @@ use Rattle.std.specs.Map.{lookup, lookup_entry, remove_entry}
 use Rattle.std.proofs.lemmas.List.{take_all}
 use Rattle.lru.specs.LruCache.{promoted}
 use Rattle.lru.proofs.CallerLemmas.{Contains-take, Contains-promoted}
-use Rattle.kept_shelf.proofs.EntryLemmas.{head_in, tail_in, in_cons, none_in}
+use Rattle.kept_values.proofs.EntryLemmas.{head_in, tail_in, in_cons, none_in}
 use Rattle.can_bus.specs.Bus.{Bus}
 use Rattle.co_segments.specs.Placed.{AreNamed, AreSound, IsLater, IsNamed, ServesNone, IsEndNumber}
 use Rattle.co_segments.specs.Placed.{Meaning, Numbered, Placed, kept_of}
@@ -16,7 +16,7 @@ use Rattle.trace_spans.proofs.NumberLemmas.{stands_later}
 use Rattle.image_parts.specs.Asking.{outcome, reads}
 use Rattle.image_parts.specs.Contents.{Image}
 use Rattle.co_segments.specs.Segments.{IsServed, IsValidOnce, IsStale, IsTaken, Kept, Serves}
-use Rattle.bus_laws.specs.Spans.{span}
+use Rattle.can_bus.specs.Spans.{span}
 use Rattle.co_segments.proofs.ValidLemmas.{gives_from_serves, valid_from_sound}
 
 -- ---- what a look-up finds

@@ -4,8 +4,8 @@ use Rattle.std.proofs.Common.{sym, ap, subst, ◌∙◌, arith}
 use Rattle.std.proofs.lemmas.Bool.{false≢true}
 use Rattle.std.specs.Map.{lookup}
 use Rattle.lru.specs.LruCache.{promoted}
-use Rattle.kept_shelf.specs.Shelves.{Shelved, put_first}
-use Rattle.kept_shelf.proofs.EntryLemmas.{none_in}
+use Rattle.kept_values.specs.LastUsed.{LastUsed, put_first}
+use Rattle.kept_values.proofs.EntryLemmas.{none_in}
 use Rattle.can_bus.specs.Bus.{Bus, blank_bus}
 use Rattle.image_parts.specs.Contents.{Image, RosterIs}
 use Rattle.image_parts.specs.declared.part.Part.{Part}
@@ -26,9 +26,9 @@ use Rattle.co_segments.proofs.PlacedLemmas.{sound_promoted}
 -- ---- all segments
 
 -- none at all
-pub no_segments : (stock : Stock) → stock.shelf.entries ≡ [] → AreSegments stock
+pub no_segments : (stock : Stock) → stock.recent.entries ≡ [] → AreSegments stock
 no_segments stock e =
-    let none : (f : ℕ × Placed) → Contains stock.shelf.entries f → ⊥ =
+    let none : (f : ℕ × Placed) → Contains stock.recent.entries f → ⊥ =
     λ f c. none_in f (subst (λ (es : List (ℕ × Placed)). Contains es f) e c) in
     record {
       sound = λ f c. absurd (none f c);
@@ -37,7 +37,7 @@ no_segments stock e =
     }
 
 -- numbers that were given for nothing
-pub segments_later : (old new : Stock) → new.shelf.entries ≡ old.shelf.entries → IsMore old.given new.given
+pub segments_later : (old new : Stock) → new.recent.entries ≡ old.recent.entries → IsMore old.given new.given
     → AreSegments old → AreSegments new
 segments_later old new same more h =
     let grows : IsLater h.meaning old.given h.meaning new.given = record {
@@ -50,12 +50,12 @@ segments_later old new same more h =
       sound = subst (λ (es : List (ℕ × Placed)). AreSound es) (sym same) h.sound;
       meaning = h.meaning;
       named = subst (λ (es : List (ℕ × Placed)). AreNamed h.meaning new.given es) (sym same)
-          (all_later h.meaning h.meaning old.given new.given grows old.shelf.entries h.named);
+          (all_later h.meaning h.meaning old.given new.given grows old.recent.entries h.named);
     }
 
 -- some of them
 pub segments_fewer : (old new : Stock)
-    → ((e : ℕ × Placed) → Contains new.shelf.entries e → Contains old.shelf.entries e)
+    → ((e : ℕ × Placed) → Contains new.recent.entries e → Contains old.recent.entries e)
     → new.given ≡ old.given → AreSegments old → AreSegments new
 segments_fewer old new fewer given h = record {
   sound = λ e c. h.sound e (fewer e c);
@@ -75,7 +75,7 @@ none_known k e = cc
 
 module _ (image : Image) (old new : Stock) where
   -- a new bus, where nothing is known of the image yet
-  pub told_new : (look : Look) (here : Numbered) (bus : Bus) → AreSegments old → new.shelf.entries ≡ old.shelf.entries
+  pub told_new : (look : Look) (here : Numbered) (bus : Bus) → AreSegments old → new.recent.entries ≡ old.recent.entries
       → here ≡ record { number = old.given.buses; bus = bus } → new.given.buses ≡ old.given.buses + 1
       → new.given.contents ≡ old.given.contents → look.reads ≡ [] → IsTold image new look here
   told_new look here bus h same is e f none =
@@ -91,19 +91,19 @@ module _ (image : Image) (old new : Stock) where
         sound = subst (λ (es : List (ℕ × Placed)). AreSound es) (sym same) h.sound;
         meaning = m;
         named = subst (λ (es : List (ℕ × Placed)). AreNamed m new.given es) (sym same)
-            (all_later h.meaning m old.given new.given grows old.shelf.entries h.named);
+            (all_later h.meaning m old.given new.given grows old.recent.entries h.named);
         state = rw (is, e) (given_stands h.meaning.buses old.given.buses bus);
         known = subst (λ (r : List (Part × Known)). AreNumbered image m.contents new.given.contents r) (sym none)
             (λ part k at. absurd (none_known k at));
       }
 
   -- the store holds the same, in another order of what lies ahead
-  pub told_still : (look : Look) (here : Numbered) → new.shelf.entries ≡ old.shelf.entries → new.given ≡ old.given
+  pub told_still : (look : Look) (here : Numbered) → new.recent.entries ≡ old.recent.entries → new.given ≡ old.given
       → IsTold image old look here → IsTold image new look here
   told_still look here same given h = record {
     sound = subst (λ (es : List (ℕ × Placed)). AreSound es) (sym same) h.sound;
     meaning = h.meaning;
-    named = subst (λ (g : Given). AreNamed h.meaning g new.shelf.entries) (sym given)
+    named = subst (λ (g : Given). AreNamed h.meaning g new.recent.entries) (sym given)
         (subst (λ (es : List (ℕ × Placed)). AreNamed h.meaning old.given es) (sym same) h.named);
     state = subst (λ (g : Given). StandsFor h.meaning.buses g.buses here.number here.bus) (sym given) h.state;
     known = subst (λ (g : Given). AreNumbered image h.meaning.contents g.contents look.reads) (sym given) h.known;
@@ -111,7 +111,7 @@ module _ (image : Image) (old new : Stock) where
 
   -- more is known of the image
   pub told_known : (look after : Look) (here : Numbered) (h : IsTold image old look here)
-      → new.shelf.entries ≡ old.shelf.entries → new.given.buses ≡ old.given.buses
+      → new.recent.entries ≡ old.recent.entries → new.given.buses ≡ old.given.buses
       → LearnsMore image h.meaning.contents old.given.contents new.given.contents after.reads → IsTold image new after here
   told_known look after here h same buses e =
       let m : Meaning = record { buses = h.meaning.buses; contents = e.meaning } in
@@ -125,25 +125,25 @@ module _ (image : Image) (old new : Stock) where
         sound = subst (λ (es : List (ℕ × Placed)). AreSound es) (sym same) h.sound;
         meaning = m;
         named = subst (λ (es : List (ℕ × Placed)). AreNamed m new.given es) (sym same)
-            (all_later h.meaning m old.given new.given grows old.shelf.entries h.named);
+            (all_later h.meaning m old.given new.given grows old.recent.entries h.named);
         state = rw buses h.state;
         known = e.known;
       }
 
   -- one that is used goes first, and its end is reached
   pub told_used : (look : Look) (here end : Numbered) (key : ℕ) (s : Placed) → IsTold image old look here
-      → lookup (nat_eq key) old.shelf.entries ≡ Some s
-      → new.shelf.entries ≡ promoted (nat_eq key) old.shelf.entries → new.given ≡ old.given
+      → lookup (nat_eq key) old.recent.entries ≡ Some s
+      → new.recent.entries ≡ promoted (nat_eq key) old.recent.entries → new.given ≡ old.given
       → end ≡ record { number = s.end; bus = s.kept.end } → IsTold image new look end
   told_used look here end key s h found first given is =
-      let c = in_lookup key old.shelf.entries s found in
+      let c = in_lookup key old.recent.entries s found in
       record {
         sound = subst (λ (es : List (ℕ × Placed)). AreSound es) (sym first)
-            (sound_promoted key old.shelf.entries h.sound);
+            (sound_promoted key old.recent.entries h.sound);
         meaning = h.meaning;
-        named = subst (λ (g : Given). AreNamed h.meaning g new.shelf.entries) (sym given)
+        named = subst (λ (g : Given). AreNamed h.meaning g new.recent.entries) (sym given)
             (subst (λ (es : List (ℕ × Placed)). AreNamed h.meaning old.given es) (sym first)
-            (named_promoted h.meaning old.given key old.shelf.entries h.named));
+            (named_promoted h.meaning old.given key old.recent.entries h.named));
         state = rw (is, given) ((h.named (c.0, s) c.1).end);
         known = subst (λ (g : Given). AreNumbered image h.meaning.contents g.contents look.reads) (sym given) h.known;
       }
@@ -156,15 +156,15 @@ module _ (image : Image) (old new : Stock) where
     abbrev placed : Placed
     placed = record { kept = kept; start = here.number; reads = marked; end = n.number }
 
-    module _ (first : new.shelf ≡ put_first placed old.shelf) where
+    module _ (first : new.recent ≡ put_first placed old.recent) where
       told_by : (buses : ℕ → Bus) → KeepsMeaning old.given.buses h.meaning.buses buses
           → old.given.buses ≤ new.given.buses → StandsFor buses new.given.buses n.number n.bus
           → IsTold image new after n
       told_by buses keeps grows end =
-          let es : List (ℕ × Placed) = old.shelf.entries in
-          let key : ℕ = old.shelf.given in
-          let entries : new.shelf.entries ≡ take old.shelf.capacity ((key, placed) ∷ es) =
-          ap (λ (x : Shelved Placed). x.entries) first in
+          let es : List (ℕ × Placed) = old.recent.entries in
+          let key : ℕ = old.recent.given in
+          let entries : new.recent.entries ≡ take old.recent.capacity ((key, placed) ∷ es) =
+          ap (λ (x : LastUsed Placed). x.entries) first in
           let m : Meaning = record { buses = buses; contents = e.0.meaning } in
           let later : IsLater h.meaning old.given m new.given = record {
             more_buses = grows;
@@ -179,17 +179,18 @@ module _ (image : Image) (old new : Stock) where
           subst (λ (b : Bus). StandsFor buses new.given.buses n.number b) same end in
           record {
             sound = subst (λ (x : List (ℕ × Placed)). AreSound x) (sym entries)
-                (sound_added old.shelf.capacity key placed es sound h.sound);
+                (sound_added old.recent.capacity key placed es sound h.sound);
             meaning = m;
             named = subst (λ (x : List (ℕ × Placed)). AreNamed m new.given x) (sym entries)
-                (named_added m new.given old.shelf.capacity key placed es
+                (named_added m new.given old.recent.capacity key placed es
                 (record { start = begin; end = last; reads = e.1 })
                 (all_later h.meaning m old.given new.given later es h.named));
             state = end;
             known = e.0.known;
           }
 
-      pub told_reached : IsEndNumber old.shelf.entries old.given.buses new.given.buses n.bus n → IsTold image new after n
+      pub told_reached : IsEndNumber old.recent.entries old.given.buses new.given.buses n.bus n
+          → IsTold image new after n
       told_reached how = elim how [
         | inl new_one ↦ (
             let number : n.number ≡ old.given.buses = ap (λ (x : Numbered). x.number) new_one.0 in
@@ -214,32 +215,32 @@ module _ (image : Image) (old new : Stock) where
 
   -- more is known of the image
   pub stands_known : (number : ℕ) (look after : Look) (here : Reached) (h : StandsAt image number old look here)
-      → new.shelf ≡ old.shelf → new.given.buses ≡ old.given.buses
+      → new.recent ≡ old.recent → new.given.buses ≡ old.given.buses
       → LearnsMore image h.told.meaning.contents old.given.contents new.given.contents after.reads
       → StandsAt image number new after here
   stands_known number look after here h same buses e =
-      let entries : new.shelf.entries ≡ old.shelf.entries = ap (λ (s : Shelved Placed). s.entries) same in
+      let entries : new.recent.entries ≡ old.recent.entries = ap (λ (s : LastUsed Placed). s.entries) same in
       record {
-        turn = ap (λ (s : Shelved Placed). s.turn) same ∙ h.turn;
+        turn = ap (λ (s : LastUsed Placed). s.turn) same ∙ h.turn;
         told = told_known look after here.state h.told entries buses e;
         new = λ is. subst (λ (es : List (ℕ × Placed)). ServesNone es number here.state.bus) (sym entries) (h.new is);
       }
 
   -- nothing lies ahead any more
   pub stands_settled : (number : ℕ) (look : Look) (here : Reached) → StandsAt image number old look here
-      → new.shelf ≡ record old.shelf { ahead = [] } → new.given ≡ old.given → StandsAt image number new look here
+      → new.recent ≡ record old.recent { ahead = [] } → new.given ≡ old.given → StandsAt image number new look here
   stands_settled number look here h same given =
-      let entries : new.shelf.entries ≡ old.shelf.entries = ap (λ (s : Shelved Placed). s.entries) same in
+      let entries : new.recent.entries ≡ old.recent.entries = ap (λ (s : LastUsed Placed). s.entries) same in
       record {
-        turn = ap (λ (s : Shelved Placed). s.turn) same ∙ h.turn;
+        turn = ap (λ (s : LastUsed Placed). s.turn) same ∙ h.turn;
         told = told_still look here.state entries given h.told;
         new = λ is. subst (λ (es : List (ℕ × Placed)). ServesNone es number here.state.bus) (sym entries) (h.new is);
       }
 
   -- a held segment was used
   pub stands_used : (number : ℕ) (look : Look) (here end : Reached) (key : ℕ) (s : Placed)
-      → StandsAt image number old look here → lookup (nat_eq key) old.shelf.entries ≡ Some s
-      → new.shelf.entries ≡ promoted (nat_eq key) old.shelf.entries → new.shelf.turn ≡ old.shelf.turn + 1
+      → StandsAt image number old look here → lookup (nat_eq key) old.recent.entries ≡ Some s
+      → new.recent.entries ≡ promoted (nat_eq key) old.recent.entries → new.recent.turn ≡ old.recent.turn + 1
       → new.given ≡ old.given → end.state ≡ record { number = s.end; bus = s.kept.end } → end.is_new ≡ false
       → StandsAt image (number + 1) new look end
   stands_used number look here end key s h found first turn given is known = record {

@@ -5,7 +5,7 @@ use Rattle.image_parts.proofs.QuestionLemmas.{two_images}
 use Rattle.image_parts.specs.Contents.{Image}
 use Rattle.can_bus.specs.Bus.{Bus}
 use Rattle.can_bus.specs.declared.line.Line.{Line}
-use Rattle.bus_laws.specs.Spans.{span}
+use Rattle.can_bus.specs.Spans.{span}
 use Rattle.trace_spans.specs.Records.{IsRecordOf}
 use Rattle.co_segments.specs.Segments.{Kept, IsValid, IsValidOnce, Serves, IsServed, Traced}
 

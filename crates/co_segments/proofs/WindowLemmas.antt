@@ -6,8 +6,8 @@ use Rattle.can_bus.specs.Bus.{Bus, blank_bus}
 use Rattle.can_bus.specs.Runs.{is_shown, trace}
 use Rattle.can_bus.specs.declared.line.Line.{Line}
 use Rattle.can_bus.proofs.ToldLemmas.{trace_of_run}
-use Rattle.bus_laws.specs.Spans.{span}
-use Rattle.bus_laws.proofs.SpanLemmas.{spans_are_the_run}
+use Rattle.can_bus.specs.Spans.{span}
+use Rattle.can_bus.proofs.SpanLemmas.{spans_are_the_run}
 use Rattle.trace_spans.specs.Spans.{lines_of_spans}
 
 -- whole spans up to that of the horizon show the trace

@@ -2,7 +2,7 @@
 use Rattle.std.specs.Prelude.{◌≡◌, ℕ, ◌+◌, ◌≤◌, IfOk, List, Result, ◌++◌, ◌∷◌, take}
 use Rattle.image_parts.specs.Asking.{outcome, reads}
 use Rattle.image_parts.specs.declared.asked.Asked.{Ghosts as Asked}
-use Rattle.bus_laws.specs.Spans.{span}
+use Rattle.can_bus.specs.Spans.{span}
 use Rattle.can_bus.specs.Bus.{Bus}
 use Rattle.can_bus.specs.declared.line.Line.{Line}
 use Rattle.kept_values.specs.Work.{Rises, Work}
@@ -10,7 +10,7 @@ use Rattle.image_parts.specs.Contents.{Content, Image}
 use Rattle.image_parts.specs.Images.{IsImage}
 use Rattle.image_parts.specs.declared.part.Part.{Part}
 use Rattle.trace_spans.specs.Records.{IsRecordOf}
-use Rattle.kept_shelf.specs.Shelves.{put_first}
+use Rattle.kept_values.specs.LastUsed.{put_first}
 use Rattle.trace_spans.specs.Spans.{IsReady}
 use Rattle.co_segments.specs.declared.reached.Reached.{Reached}
 use Rattle.co_segments.specs.declared.stock.Stock.{Stock}
@@ -42,7 +42,7 @@ pub record Advances {P : Type 0} (asked : Asked P Part Content) (number : ℕ) (
   pub served : IsServed (asked.seen old.parts).image (held_in old.stock) number here kept rest ran read
   pub end_is : end ≡ kept.end
   pub told_is : new.telling.told ≡ old.telling.told ++ kept.lines
-  pub held_is : held_in new.stock ≡ take old.stock.shelf.capacity (kept ∷ rest)
+  pub held_is : held_in new.stock ≡ take old.stock.recent.capacity (kept ∷ rest)
   pub run : HasRun ran old.work new.work
   pub counted : asked.asks new.parts ≤ asked.asks old.parts + recorded_of number looked_at + read
 
@@ -55,7 +55,7 @@ pub record Goes {P E : Type 0} (asked : Asked P Part Content) (number : ℕ) (he
   -- whatever came of it, each held segment is valid
   pub segments : AreSegments new.stock
   -- as many can be held as before
-  pub capacity : new.stock.shelf.capacity ≡ old.stock.shelf.capacity
+  pub capacity : new.stock.recent.capacity ≡ old.stock.recent.capacity
   -- the image is the same
   pub kept : (asked.seen new.parts).image ≡ (asked.seen old.parts).image
   -- and no count becomes less
@@ -78,7 +78,7 @@ pub record CanRun (image : Image) (number : ℕ) (here : Bus) : Type 0 where
 pub record Runs (image : Image) (number : ℕ) (here : Bus) (old new : Stock) (before after : Telling)
     (end : Bus) : Type 0 where
   pub placed : Placed
-  pub first : new.shelf ≡ put_first placed old.shelf
+  pub first : new.recent ≡ put_first placed old.recent
   pub end_is : end ≡ placed.kept.end
   pub number_is : placed.kept.number ≡ number
   pub start_is : placed.kept.start ≡ here
@@ -95,6 +95,6 @@ pub record Traces {P : Type 0} (asked : Asked P Part Content) (count : ℕ) (old
   pub end : Bus
   pub ran : ℕ
   pub read : ℕ
-  pub traced : Traced (asked.seen parts).image old.shelf.capacity (held_in old) count end (held_in new) told ran read
+  pub traced : Traced (asked.seen parts).image old.recent.capacity (held_in old) count end (held_in new) told ran read
   pub run : HasRun ran work after
   pub counted : asked.asks later ≤ asked.asks parts + recorded_from 0 (held_in old) + read

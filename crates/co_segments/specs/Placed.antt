@@ -5,7 +5,7 @@ use Rattle.can_bus.specs.Bus.{Bus}
 use Rattle.can_bus.specs.declared.line.Line.{Line}
 use Rattle.image_parts.specs.Contents.{Content, Image}
 use Rattle.image_parts.specs.declared.part.Part.{Part}
-use Rattle.kept_shelf.specs.Numbers.{of_number}
+use Rattle.kept_values.specs.Numbers.{of_number}
 use Rattle.trace_spans.specs.Numbers.{KeepsMeaning, StandsFor}
 use Rattle.trace_spans.specs.Reads.{AreNumbered, AreMarked, LearnsMore, Known, Recorded, plain}
 use Rattle.co_segments.specs.declared.given.Given.{Given}

@@ -8,7 +8,7 @@ use Rattle.image_parts.specs.Contents.{Content, Image}
 use Rattle.image_parts.specs.declared.part.Part.{Part}
 use Rattle.can_bus.specs.Bus.{Bus, blank_bus}
 use Rattle.can_bus.specs.declared.line.Line.{Line}
-use Rattle.bus_laws.specs.Spans.{span}
+use Rattle.can_bus.specs.Spans.{span}
 use Rattle.trace_spans.specs.Records.{IsOnce, IsRecordOf}
 
 -- A SEGMENT: the span of a number from a bus on, what it read, what it told, and the bus at its end

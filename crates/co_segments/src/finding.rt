@@ -20,13 +20,13 @@ pub(crate) fn find<P: Parts>(
     here: &Reached,
     parts: &mut P,
 ) -> Result<Option<u64>, AllocError>
-    requires settled { stock.old.shelf.ahead ≡ [] }
+    requires settled { stock.old.recent.ahead ≡ [] }
     requires stands { StandsAt (P.seen parts.now).image number stock.old look.old here.now }
     requires passed { ArePassed (P.seen parts.now).image number from stock.old here.now.state.bus }
     ensures found { IfOk result (λ key. IsFound (P.seen parts.old).image number stock.old here.now.state.bus key) }
     ensures stands { OnOk result (StandsAt (P.seen parts.old).image number stock.new look.new here.now) }
     ensures segments { AreSegments stock.new }
-    ensures shelf { stock.new.shelf ≡ stock.old.shelf }
+    ensures recent { stock.new.recent ≡ stock.old.recent }
     ensures counted { OnOk result (P.asks parts.new
         ≤ P.asks parts.old + recorded_of number (left_from number from stock.old)) }
     ensures kept { (P.seen parts.new).image ≡ (P.seen parts.old).image }
@@ -34,8 +34,8 @@ pub(crate) fn find<P: Parts>(
     if here.is_new {
         return Ok(None);
     }
-    for place in from..stock.shelf.count(number) {
-        if let Some((key, segment)) = stock.shelf.at(number, place) {
+    for place in from..stock.recent.count(number) {
+        if let Some((key, segment)) = stock.recent.at(number, place) {
             if segment.serves(
                 stock.alloc,
                 look,

@@ -10,7 +10,7 @@ use crate::segment::Segment;
 use crate::serving::give;
 use crate::sight::Sight;
 use can_bus::BusState;
-use kept_shelf::Shelf;
+use kept_values::Recent;
 use std::alloc::{AllocError, Global};
 use trace_spans::Place;
 
@@ -38,21 +38,21 @@ fn differs_there(
 /// differ at one device for long: where it told one from the bus, it is looked at first in the others, and at the
 /// end of the next segment.
 fn held_start(
-    shelf: &Shelf<Segment>,
+    recent: &Recent<Segment>,
     number: u64,
     bus: &BusState,
     sight: &Option<Sight>,
     apart: &mut Option<usize>,
 ) -> Result<Option<NumberedBus>, AllocError>
-    requires settled { shelf.now.ahead ≡ [] }
-    requires later { shelf.now.turn ≤ number }
+    requires settled { recent.now.ahead ≡ [] }
+    requires later { recent.now.turn ≤ number }
     requires sight { AreSightsOf bus.now sight.now }
-    ensures { IfOk result (λ start. MatchOption start (ServesNone shelf.now.entries number bus.now)
-        (λ n. (e : ℕ × Placed) × (Contains shelf.now.entries e × IsStart e.1 n bus.now))) }
+    ensures { IfOk result (λ start. MatchOption start (ServesNone recent.now.entries number bus.now)
+        (λ n. (e : ℕ × Placed) × (Contains recent.now.entries e × IsStart e.1 n bus.now))) }
 {
-    let count = shelf.count(number);
+    let count = recent.count(number);
     for place in 0..count {
-        if let Some((_key, segment)) = shelf.at(number, place) {
+        if let Some((_key, segment)) = recent.at(number, place) {
             if differs_there(segment, *apart, bus, sight) {
                 continue;
             }
@@ -79,22 +79,22 @@ fn seen_at(place: Option<Place>, bus: &BusState) -> Option<Sight>
 /// the place by which a bus was last told from another one is looked at first.
 pub(crate) fn reach(
     alloc: Global,
-    shelf: &Shelf<Segment>,
+    recent: &Recent<Segment>,
     given: &mut u64,
     number: u64,
     bus: BusState,
     place: Option<Place>,
     apart: Option<usize>,
 ) -> Result<Reached, AllocError>
-    requires settled { shelf.now.ahead ≡ [] }
-    requires later { shelf.now.turn ≤ number }
-    ensures reached { IfOk result (λ end. IsEndNumber shelf.now.entries given.old given.new bus end.state) }
-    ensures new { IfOk result (λ end. IsTrue end.is_new → ServesNone shelf.now.entries number bus) }
+    requires settled { recent.now.ahead ≡ [] }
+    requires later { recent.now.turn ≤ number }
+    ensures reached { IfOk result (λ end. IsEndNumber recent.now.entries given.old given.new bus end.state) }
+    ensures new { IfOk result (λ end. IsTrue end.is_new → ServesNone recent.now.entries number bus) }
     ensures more { given.old ≤ given.new }
 {
     let sight = seen_at(place, &bus);
     let mut apart = apart;
-    let start = held_start(shelf, number, &bus, &sight, &mut apart)?;
+    let start = held_start(recent, number, &bus, &sight, &mut apart)?;
     match start {
         Some(state) => Ok(Reached {
             state,

@@ -3,8 +3,8 @@
 ghost use Rattle.std.specs.Prelude.{◌≡◌, ◌≤◌, ◌+◌, ℕ, [], IfOk, OnErr, OnOk, Some, drop, length, nat_eq, slice_get};
 ghost use Rattle.std.specs.Map.{lookup};
 ghost use Rattle.image_parts.specs.Asking.{reads};
-ghost use Rattle.bus_laws.specs.Spans.{span};
-ghost use Rattle.kept_shelf.specs.Shelves.{HasNumber, use_first};
+ghost use Rattle.can_bus.specs.Spans.{span};
+ghost use Rattle.kept_values.specs.LastUsed.{HasNumber, use_first};
 ghost use Rattle.co_segments.specs.Advances.{CanRun, Goes, IsUsed, Runs, progress};
 ghost use Rattle.co_segments.specs.Placed.{IsMore, Placed};
 ghost use Rattle.co_segments.specs.Sights.{AreSightsOf};
@@ -18,9 +18,9 @@ use crate::segment::Segment;
 use crate::sight::Sight;
 use crate::stock::Stock;
 use crate::telling::Telling;
+use base::Shared;
 use can_bus::{BusState, Parts};
-use kept_shelf::Shelf;
-use kept_values::{Meter, Shared};
+use kept_values::{Meter, Recent};
 use std::alloc::{AllocError, Global};
 use std::rc::Rc;
 use trace_spans::{Look, TraceText, run};
@@ -59,40 +59,40 @@ fn tell(segment: &Segment, told: &mut TraceText) -> Result<NumberedBus, AllocErr
 }
 
 /// Uses the segment that lies ahead, and puts it first.
-fn follow(shelf: &mut Shelf<Segment>, told: &mut TraceText) -> Result<NumberedBus, AllocError>
-    requires { (e : ℕ × Placed) × (slice_get shelf.old.ahead 0 ≡ Some e) }
+fn follow(recent: &mut Recent<Segment>, told: &mut TraceText) -> Result<NumberedBus, AllocError>
+    requires { (e : ℕ × Placed) × (slice_get recent.old.ahead 0 ≡ Some e) }
     ensures used { IfOk result (λ end. (e : ℕ × Placed)
-        × ((slice_get shelf.old.ahead 0 ≡ Some e) × IsUsed e.1 told.old told.new end)) }
-    ensures first { OnOk result ((e : ℕ × Placed) → slice_get shelf.old.ahead 0 ≡ Some e
-        → shelf.new ≡ record (use_first e.0 shelf.old) { ahead = drop 1 shelf.old.ahead }) }
-    ensures err { OnErr result (shelf.new ≡ shelf.old) }
+        × ((slice_get recent.old.ahead 0 ≡ Some e) × IsUsed e.1 told.old told.new end)) }
+    ensures first { OnOk result ((e : ℕ × Placed) → slice_get recent.old.ahead 0 ≡ Some e
+        → recent.new ≡ record (use_first e.0 recent.old) { ahead = drop 1 recent.old.ahead }) }
+    ensures err { OnErr result (recent.new ≡ recent.old) }
 {
-    let end = match shelf.next() {
+    let end = match recent.next() {
         None => return Err(AllocError),
         Some((_key, segment)) => tell(segment, told)?,
     };
-    shelf.use_next();
+    recent.use_next();
     Ok(end)
 }
 
 /// Uses the segment under a key, and puts it first.
 fn use_held(
-    shelf: &mut Shelf<Segment>,
+    recent: &mut Recent<Segment>,
     key: u64,
     told: &mut TraceText,
 ) -> Result<NumberedBus, AllocError>
-    requires settled { shelf.old.ahead ≡ [] }
-    requires turn { HasNumber (λ (s : Placed). s.kept.number) key shelf.old.turn shelf.old.entries }
+    requires settled { recent.old.ahead ≡ [] }
+    requires turn { HasNumber (λ (s : Placed). s.kept.number) key recent.old.turn recent.old.entries }
     ensures used { IfOk result (λ end. (s : Placed)
-        × ((lookup (nat_eq key) shelf.old.entries ≡ Some s) × IsUsed s told.old told.new end)) }
-    ensures first { OnOk result (shelf.new ≡ use_first key shelf.old) }
-    ensures err { OnErr result (shelf.new ≡ shelf.old) }
+        × ((lookup (nat_eq key) recent.old.entries ≡ Some s) × IsUsed s told.old told.new end)) }
+    ensures first { OnOk result (recent.new ≡ use_first key recent.old) }
+    ensures err { OnErr result (recent.new ≡ recent.old) }
 {
-    let end = match shelf.get(key) {
+    let end = match recent.get(key) {
         None => return Err(AllocError),
         Some(segment) => tell(segment, told)?,
     };
-    shelf.use_again(key)?;
+    recent.use_again(key)?;
     Ok(end)
 }
 
@@ -104,14 +104,14 @@ fn run_new<P: Parts>(
     here: Reached,
     parts: &mut P,
 ) -> Result<Reached, AllocError>
-    requires settled { stock.old.shelf.ahead ≡ [] }
+    requires settled { stock.old.recent.ahead ≡ [] }
     requires can { CanRun (P.seen parts.now).image number here.state.bus }
     requires stands { StandsAt (P.seen parts.now).image number stock.old telling.old.look here }
     ensures ran { IfOk result (λ end. Runs (P.seen parts.old).image number here.state.bus
         stock.old stock.new telling.old telling.new end.state.bus) }
     ensures stands { IfOk result (λ end. StandsAt (P.seen parts.old).image (number + 1)
         stock.new telling.new.look end) }
-    ensures err { OnErr result (stock.new.shelf ≡ stock.old.shelf) }
+    ensures err { OnErr result (stock.new.recent ≡ stock.old.recent) }
     ensures more { IsMore stock.old.given stock.new.given }
     ensures counted { OnOk result (P.asks parts.new ≤ P.asks parts.old
         + length (reads (span number here.state.bus) (P.seen parts.old).image)) }
@@ -129,7 +129,7 @@ fn run_new<P: Parts>(
     telling.told.add(lines.share()?)?;
     let end = reach(
         stock.alloc,
-        &stock.shelf,
+        &stock.recent,
         &mut stock.given.buses,
         number + 1,
         ran.end,
@@ -138,7 +138,7 @@ fn run_new<P: Parts>(
     )?;
     let copy = end.state.share()?;
     let segment = Segment::new(number, here.state, ran.reads, lines, copy);
-    stock.shelf.add(segment)?;
+    stock.recent.add(segment)?;
     Ok(end)
 }
 
@@ -155,10 +155,10 @@ fn look_ahead<P: Parts>(
         here.now.state.bus answer (P.asks parts.old) (P.asks parts.new)) }
     ensures stands { OnOk result (StandsAt (P.seen parts.old).image number stock.new look.new here.now) }
     ensures segments { AreSegments stock.new }
-    ensures shelf { stock.new.shelf ≡ stock.old.shelf }
+    ensures recent { stock.new.recent ≡ stock.old.recent }
     ensures kept { (P.seen parts.new).image ≡ (P.seen parts.old).image }
 {
-    match stock.shelf.next() {
+    match stock.recent.next() {
         None => Ok(None),
         Some((_key, segment)) => {
             let serves = segment.serves(
@@ -185,7 +185,7 @@ fn search<P: Parts>(
     parts: &mut P,
     meter: &mut Meter,
 ) -> Result<Reached, AllocError>
-    requires settled { stock.old.shelf.ahead ≡ [] }
+    requires settled { stock.old.recent.ahead ≡ [] }
     requires passed { ArePassed (P.seen parts.now).image number from stock.old here.state.bus }
     requires can { CanRun (P.seen parts.now).image number here.state.bus }
     requires stands { StandsAt (P.seen parts.now).image number stock.old telling.old.look here }
@@ -193,11 +193,11 @@ fn search<P: Parts>(
         (progress stock.old telling.old meter.old parts.old)
         (progress stock.new telling.new meter.new parts.new) result }
 {
-    let _count = stock.shelf.len();
+    let _count = stock.recent.len();
     let found = find(stock, &mut telling.look, number, from, &here, parts)?;
     match found {
         Some(key) => {
-            let state = use_held(&mut stock.shelf, key, &mut telling.told)?;
+            let state = use_held(&mut stock.recent, key, &mut telling.told)?;
             Ok(Reached {
                 state,
                 is_new: false,
@@ -229,7 +229,7 @@ fn pass_on<P: Parts>(
         (progress stock.old telling.old meter.old parts.old)
         (progress stock.new telling.new meter.new parts.new) result }
 {
-    stock.shelf.settle()?;
+    stock.recent.settle()?;
     let end = search(stock, telling, number, from, here, parts, meter)?;
     Ok(end)
 }
@@ -250,11 +250,11 @@ pub(crate) fn advance<P: Parts>(
         (progress stock.old telling.old meter.old parts.old)
         (progress stock.new telling.new meter.new parts.new) result }
 {
-    let _count = stock.shelf.len();
+    let _count = stock.recent.len();
     let ahead = look_ahead(stock, &mut telling.look, number, &here, parts)?;
     match ahead {
         Some(true) => {
-            let state = follow(&mut stock.shelf, &mut telling.told)?;
+            let state = follow(&mut stock.recent, &mut telling.told)?;
             Ok(Reached {
                 state,
                 is_new: false,

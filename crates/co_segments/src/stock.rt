@@ -2,7 +2,7 @@
 
 use crate::given::Given;
 use crate::segment::Segment;
-use kept_shelf::Shelf;
+use kept_values::Recent;
 use std::alloc::Global;
 
 /// The segments of a store, and the private numbers that it has given.
@@ -11,7 +11,7 @@ pub(crate) struct Stock {
     /// Where its memory comes from.
     pub alloc: Global,
     /// The segments.
-    pub shelf: Shelf<Segment>,
+    pub recent: Recent<Segment>,
     /// How many private numbers were given.
     pub given: Given,
 }

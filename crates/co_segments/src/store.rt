@@ -18,8 +18,7 @@ use crate::stock::Stock;
 use crate::telling::Telling;
 use can_bus::{BusState, Line, Parts};
 use image_parts::{END, WINDOW};
-use kept_shelf::Shelf;
-use kept_values::Meter;
+use kept_values::{Meter, Recent};
 use std::alloc::{AllocError, Global};
 use std::marker::Model;
 use trace_spans::TraceText;
@@ -47,7 +46,7 @@ impl Model for Store {
 
     ghost coded = { held_code (kept_code bus_state.the_row.coded noted.the_row.coded told.the_row.coded) };
 
-    ghost view = { λ a. record { capacity = a.stock.shelf.capacity; segments = held_in a.stock } };
+    ghost view = { λ a. record { capacity = a.stock.recent.capacity; segments = held_in a.stock } };
 
     ghost invariant = { λ a. AreSegments a.stock };
 }
@@ -77,11 +76,11 @@ fn tell_spans<P: Parts>(
     ensures traces { IfOk result (λ told. Traces P.Asked count stock.old stock.new meter.old meter.new
         parts.old parts.new told) }
     ensures segments { AreSegments stock.new }
-    ensures capacity { stock.new.shelf.capacity ≡ stock.old.shelf.capacity }
+    ensures capacity { stock.new.recent.capacity ≡ stock.old.recent.capacity }
     ensures kept { (P.seen parts.new).image ≡ (P.seen parts.old).image }
     ensures rises { Rises meter.old meter.new }
 {
-    stock.shelf.begin()?;
+    stock.recent.begin()?;
     let mut telling = Telling::new(stock.alloc);
     let bus = BusState::new(stock.alloc);
     let state = give(stock.alloc, &mut stock.given.buses, bus, None)?;
@@ -103,11 +102,11 @@ impl Store {
     pub fn new(alloc: Global, capacity: usize) -> Result<Store, AllocError>
         ensures { IfOk result (λ store. store ≡ record { capacity = capacity; segments = [] }) }
     {
-        let shelf = Shelf::new(alloc, capacity)?;
+        let recent = Recent::new(alloc, capacity)?;
         Ok(Store {
             stock: Stock {
                 alloc,
-                shelf,
+                recent,
                 given: Given {
                     buses: 0,
                     contents: 0,
@@ -183,6 +182,6 @@ impl Store {
         ensures count { result ≡ length self.now.segments }
         ensures sound { (kept : Kept) → Contains self.now.segments kept → IsValidOnce kept }
     {
-        self.stock.shelf.len()
+        self.stock.recent.len()
     }
 }

@@ -7,8 +7,8 @@ use Rattle.std.specs.Fmt.{signed_decimal}
 use Rattle.std.specs.Str.Parse.{AllDigits, IsNumeral}
 use Rattle.std.proofs.lemmas.Bool.{lt-ltb, ne_eqb}
 use Rattle.std.proofs.lemmas.Fmt.{decimal_is_IsNumeral, decimal_digit, first_decimal}
-use Rattle.plain_text.specs.Digits.{digits_number}
-use Rattle.plain_text.proofs.DigitLemmas.{decimal_again}
+use Rattle.base.specs.Digits.{digits_number}
+use Rattle.base.proofs.DigitLemmas.{decimal_again}
 use Rattle.co_values.specs.Number.{hexadecimal, octal, unsigned_number, signed_number, number}
 
 -- ---- decimal digits

@@ -2,7 +2,7 @@
 use Rattle.std.proofs.Common.{◌≡◌, ℕ, ◌<◌, List, ◌++◌, length, Some, refl, arith, pos}
 use Rattle.std.specs.Prelude.{codes}
 use Rattle.std.proofs.lemmas.Bool.{lt-ltb}
-use Rattle.plain_text.specs.Blanks.{without_first_blanks}
+use Rattle.base.specs.Blanks.{without_first_blanks}
 use Rattle.co_values.specs.Number.{number, formula, node_plus}
 use Rattle.co_values.proofs.Printed.{formula-number}
 

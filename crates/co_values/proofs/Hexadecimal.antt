@@ -11,8 +11,8 @@ use Rattle.std.proofs.Math.Nat.{pow-le-pow_right}
 use Rattle.byteorder.specs.Endian.{little_number}
 use Rattle.byteorder.specs.Numbers.{little_from-cons, little_from-lt}
 use Rattle.base.specs.Bytes.{AreBytes}
-use Rattle.plain_text.specs.Digits.{digits_number}
-use Rattle.plain_text.proofs.DigitLemmas.{digit_value-glyph, digit_value-glyph-lt, is_digit-glyph, digits_number-numeral}
+use Rattle.base.specs.Digits.{digits_number}
+use Rattle.base.proofs.DigitLemmas.{digit_value-glyph, digit_value-glyph-lt, is_digit-glyph, digits_number-numeral}
 use Rattle.co_values.specs.Number.{number}
 use Rattle.co_values.specs.Values.{pairs_of, pair_number, bytes_of_pairs}
 

@@ -6,8 +6,8 @@ use Rattle.std.specs.Prelude.{codes}
 use Rattle.std.specs.Option.{option_or}
 use Rattle.std.proofs.lemmas.Bool.{lt-ltb, eqb-true, ne_eqb}
 use Rattle.byteorder.specs.Endian.{little_bytes}
-use Rattle.plain_text.specs.Blanks.{without_first_blanks, without_last_blanks}
-use Rattle.plain_text.specs.Digits.{digits_number}
+use Rattle.base.specs.Blanks.{without_first_blanks, without_last_blanks}
+use Rattle.base.specs.Digits.{digits_number}
 use Rattle.co_values.specs.declared.data_type.DataType.{DataType}
 use Rattle.co_values.specs.declared.form.Form.{Form}
 use Rattle.co_values.specs.declared.form.Form.TheVariants.{Signed}

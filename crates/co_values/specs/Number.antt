@@ -6,8 +6,8 @@ use Rattle.std.specs.Prelude.{codes, bytes_eq}
 use Rattle.std.specs.Char.{to_ascii_lowercase}
 use Rattle.std.specs.Option.{option_or}
 use Rattle.std.specs.Str.{byte}
-use Rattle.plain_text.specs.Blanks.{without_first_blanks, without_last_blanks}
-use Rattle.plain_text.specs.Digits.{digits_number}
+use Rattle.base.specs.Blanks.{without_first_blanks, without_last_blanks}
+use Rattle.base.specs.Digits.{digits_number}
 
 -- ---- numbers
 

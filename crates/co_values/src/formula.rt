@@ -6,7 +6,7 @@ ghost use Rattle.co_values.specs.Number.{formula, is_node_id as is_node_id_text,
 ghost use Rattle.co_values.specs.Number.{sum_of_terms as terms_sum, node_sum};
 
 use crate::number::{in_range, read_number, unsigned};
-use plain_text::{without_first_blanks, without_last_blanks};
+use base::{without_first_blanks, without_last_blanks};
 
 /// Whether a text is `$NODEID`, in letters of any case.
 fn is_node_id(text: &[u8]) -> bool

@@ -5,7 +5,7 @@ ghost use Rattle.std.specs.Char.{digit_value, is_digit};
 ghost use Rattle.std.specs.List.{list_all};
 ghost use Rattle.co_values.specs.Values.{bytes_of_pairs, pair_number as number_of_pair, pairs_of};
 
-use plain_text::byte_digits;
+use base::byte_digits;
 use std::alloc::{AllocError, Global};
 
 /// Appends each byte as two upper-case digits.

@@ -5,7 +5,7 @@ ghost use Rattle.std.specs.Prelude.{reverse, ℤ, option_map, option_and_then};
 ghost use Rattle.std.specs.Fmt.{signed_decimal};
 ghost use Rattle.byteorder.specs.Endian.{little_bytes, little_number};
 ghost use Rattle.base.specs.Bytes.{AreBytes};
-ghost use Rattle.plain_text.specs.Blanks.{without_first_blanks};
+ghost use Rattle.base.specs.Blanks.{without_first_blanks};
 ghost use Rattle.co_values.specs.Number.{number, formula, in_range, hexadecimal, node_plus};
 ghost use Rattle.co_values.specs.Values.{bytes_of_pairs, pairs_of, value, text_of_value, Fits, signed_bits};
 ghost use Rattle.co_values.specs.Types.{form, octets};

@@ -1,11 +1,11 @@
 //! Numbers from text.
 
 ghost use Rattle.std.specs.Prelude.{◌≡◌, ℕ, pos, neg_ℤ, Option, option_map, option_and_then};
-ghost use Rattle.plain_text.specs.Digits.{within_cap};
+ghost use Rattle.base.specs.Digits.{within_cap};
 ghost use Rattle.co_values.specs.Number.{number, in_range as in_range_number, hexadecimal as hexadecimal_number};
 ghost use Rattle.co_values.specs.Number.{octal as octal_number, unsigned_number};
 
-use plain_text::read_digits;
+use base::read_digits;
 
 /// 2^64, which is past every number that a text may give.
 const LIMIT: u128 = 0x1_0000_0000_0000_0000;

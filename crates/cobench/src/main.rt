@@ -1,8 +1,15 @@
 //! Commands for one CANopen network from a file or the standard input, replies on the standard
 //! output.
+//!
+//! Its tests show what no session does: the program's words, FILE, streams that fail, texts and exit statuses.
 #![tactic(auto)]
 
-use command_line::{complain, run};
+mod command;
+mod guide;
+#[cfg(test)]
+mod program;
+
+use command::{complain, run};
 use std::process::ExitCode;
 use std::{env, io};
 

@@ -11,8 +11,8 @@ use Rattle.can_frame.specs.declared.waiting.Waiting.{Waiting}
 use Rattle.base.specs.Moments.{earlier, earliest, has_come}
 use Rattle.co_device.specs.Device.{Device, moments, next_due}
 use Rattle.co_device.specs.Receiving.{is_ignored, is_ignored_as, reception}
-use Rattle.device_laws.specs.Deaf.{IsDeafTo, IsIdleSync}
-use Rattle.device_laws.proofs.RestLemmas.{sent_rests}
+use Rattle.device_agenda.specs.Deaf.{IsDeafTo, IsIdleSync}
+use Rattle.device_agenda.proofs.RestLemmas.{sent_rests}
 use Rattle.device_agenda.specs.Agenda.{IsAgendaOf, Sleeps}
 use Rattle.device_agenda.specs.LowBytes.{IsDeafBeyond}
 use Rattle.device_agenda.specs.declared.agenda.Agenda.{Agenda as Plan}

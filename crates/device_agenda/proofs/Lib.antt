@@ -1,3 +1,10 @@
+pub mod CaseLemmas
+pub mod KeptLemmas
+pub mod AheadLemmas
+pub mod SelfLemmas
+pub mod IgnoredLemmas
+pub mod RestLemmas
+pub mod DeafLemmas
 pub mod AgendaLemmas
 pub mod AlarmLemmas
 pub mod GroupLemmas

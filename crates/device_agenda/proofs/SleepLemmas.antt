@@ -8,10 +8,10 @@ use Rattle.image_parts.specs.Asking.{Answer, bind}
 use Rattle.can_frame.specs.Frames.{BaseFrame}
 use Rattle.co_device.specs.Device.{Device, moments, after_instant}
 use Rattle.co_device.specs.Receiving.{is_ignored, after_frame}
-use Rattle.device_laws.specs.Deaf.{IsDeafTo}
-use Rattle.device_laws.specs.Rest.{Rests}
-use Rattle.device_laws.proofs.DeafLemmas.{nothing_comes_of_it}
-use Rattle.device_laws.proofs.RestLemmas.{quiet_at_rest}
+use Rattle.device_agenda.specs.Deaf.{IsDeafTo}
+use Rattle.device_agenda.specs.Rest.{Rests}
+use Rattle.device_agenda.proofs.DeafLemmas.{nothing_comes_of_it}
+use Rattle.device_agenda.proofs.RestLemmas.{quiet_at_rest}
 use Rattle.device_pdos.proofs.LookLemmas.{all_parts}
 use Rattle.device_agenda.specs.Agenda.{IsAgendaOf, Sleeps, at_instant, hears, sleeps_through, stirs}
 use Rattle.device_agenda.specs.Delivered.{Delivered}

@@ -17,7 +17,7 @@ use Rattle.device_objects.specs.declared.reception.Reception.{Reception}
 use Rattle.device_objects.specs.declared.reception.Reception.TheVariants.{Nothing, NmtService, Sync, SdoRequest}
 use Rattle.device_objects.specs.declared.reception.Reception.TheVariants.{ErrorControl, Pdo}
 use Rattle.device_objects.specs.Reception.{is_error_control}
-use Rattle.device_laws.specs.Deaf.{AwaitsNoSync, IsDeafTo}
+use Rattle.device_agenda.specs.Deaf.{AwaitsNoSync, IsDeafTo}
 use Rattle.device_pdos.specs.Rpdos.{any_has_identifier, has_identifier}
 use Rattle.device_pdos.specs.Tpdos.{goes_by_sync}
 use Rattle.device_pdos.specs.declared.rpdo_state.RpdoState.{RpdoState}

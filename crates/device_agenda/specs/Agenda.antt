@@ -9,8 +9,8 @@ use Rattle.co_device.specs.Receiving.{after_frame}
 use Rattle.image_parts.specs.Contents.{Content}
 use Rattle.base.specs.Moments.{earliest, has_come}
 use Rattle.image_parts.specs.declared.part.Part.{Part}
-use Rattle.device_laws.specs.Deaf.{IsDeafTo}
-use Rattle.device_laws.specs.Rest.{Rests}
+use Rattle.device_agenda.specs.Deaf.{IsDeafTo}
+use Rattle.device_agenda.specs.Rest.{Rests}
 use Rattle.device_agenda.specs.Delivered.{Delivered}
 use Rattle.device_agenda.specs.Groups.{includes}
 use Rattle.device_agenda.specs.declared.agenda.Agenda.{Agenda}

@@ -1,3 +1,7 @@
+pub mod Ahead
+pub mod Deaf
+pub mod Itself
+pub mod Rest
 pub mod Agenda
 pub mod Alarms
 pub mod Delivered

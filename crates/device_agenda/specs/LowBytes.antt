@@ -10,7 +10,7 @@ use Rattle.device_agenda.specs.Agenda.{stirs}
 use Rattle.device_agenda.specs.Delivered.{Delivered}
 use Rattle.device_agenda.specs.declared.agenda.Agenda.{Agenda}
 use Rattle.device_agenda.specs.declared.low_bytes.LowBytes.{LowBytes}
-use Rattle.device_laws.specs.Deaf.{IsDeafTo}
+use Rattle.device_agenda.specs.Deaf.{IsDeafTo}
 
 -- words have the bit of a byte, 64 in each
 abbrev pub has_bit : List ℕ → ℕ → Bool

@@ -5,7 +5,7 @@ use Rattle.co_device.specs.Device.{Device}
 use Rattle.device_agenda.specs.Groups.{includes}
 use Rattle.device_agenda.specs.LowBytes.{has_low_byte_of}
 use Rattle.device_agenda.specs.declared.reach.Reach.{Reach}
-use Rattle.device_laws.specs.Deaf.{IsDeafTo}
+use Rattle.device_agenda.specs.Deaf.{IsDeafTo}
 
 -- an identifier is one of them: its group is, and so is its low byte
 abbrev pub reaches : Reach → ℕ → Bool

@@ -12,7 +12,7 @@ ghost use Rattle.device_agenda.specs.Agenda.{at_instant, hears, IsAgendaOf};
 ghost use Rattle.device_agenda.specs.LowBytes.{IsDeafBeyond};
 ghost use Rattle.device_agenda.specs.Reach.{IsReachOf};
 ghost use Rattle.device_agenda.specs.Schedule.{IsScheduled};
-ghost use Rattle.device_laws.specs.Rest.{Rests};
+ghost use Rattle.device_agenda.specs.Rest.{Rests};
 ghost use Rattle.device_objects.specs.Profile.{sync_identifier as identifier_of_sync};
 ghost use Rattle.cia301.specs.PdoObjects.{is_of_pdos};
 

@@ -7,7 +7,7 @@ ghost use Rattle.cia301.specs.ConsumerHeartbeatTimes.{consumed_node};
 ghost use Rattle.device_objects.specs.Consumers.{expects};
 ghost use Rattle.device_objects.specs.Profile.{sync_identifier as identifier_of_sync};
 ghost use Rattle.device_agenda.specs.Reach.{Extends, IsReachOf, reaches};
-ghost use Rattle.device_laws.specs.Deaf.{AwaitsNoSync};
+ghost use Rattle.device_agenda.specs.Deaf.{AwaitsNoSync};
 ghost use Rattle.device_pdos.specs.Rpdos.{has_identifier};
 ghost use Rattle.device_pdos.specs.Tpdos.{goes_by_sync};
 

@@ -3,8 +3,8 @@ use Rattle.std.specs.Prelude.{ℕ, nat_le, ◌/◌, ◌%◌, ◌+◌, if◌then�
 use Rattle.std.specs.Prelude.{None}
 use Rattle.std.specs.List.{flat_map}
 use Rattle.std.specs.Str.{byte}
-use Rattle.plain_text.specs.Digits.{byte_digits, index_digits, identifier_digits}
-use Rattle.plain_text.specs.Lines.{line_feed}
+use Rattle.base.specs.Digits.{byte_digits, index_digits, identifier_digits}
+use Rattle.base.specs.Lines.{line_feed}
 use Rattle.diag_lines.specs.declared.code.Code.{Code}
 use Rattle.diag_lines.specs.declared.subject.Subject.{Subject}
 use Rattle.diag_lines.specs.declared.subject.Subject.TheVariants.{Cob, Default, Eds, Event, Message, Node, Param}

@@ -5,13 +5,13 @@
 ghost use Rattle.std.specs.Prelude.{◌≡◌, ◌++◌, ◌∷◌, decimal, IfOk, OnOk};
 ghost use Rattle.std.specs.Str.{byte};
 ghost use Rattle.std.specs.List.{flat_map};
-ghost use Rattle.plain_text.specs.Digits.{byte_digits, index_digits};
+ghost use Rattle.base.specs.Digits.{byte_digits, index_digits};
 ghost use Rattle.diag_lines.specs.Lines.{code_word, sub_words, subject_words, diag_line, diag_text};
 
 use crate::code::Code;
 use crate::diag::Diag;
 use crate::subject::Subject;
-use plain_text::{byte_digits, index_digits};
+use base::{byte_digits, index_digits};
 use std::alloc::{AllocError, Global};
 
 /// Writes `E` or `W` and the number in two digits.

@@ -1,5 +1,6 @@
 pub mod EachPlace
 pub mod LayerLemmas
+pub mod MarkLemmas
 pub mod PlaceLemmas
 pub mod RestoredLemmas
 pub mod WrittenLemmas

@@ -5,6 +5,7 @@ mod dict;
 mod entries;
 mod held;
 mod layer;
+mod marks;
 mod places;
 mod table;
 

@@ -7,19 +7,22 @@ ghost use Rattle.co_values.specs.Values.{longest_value};
 
 use crate::entries::same_entries;
 use crate::held::Held;
+use crate::marks::Marks;
 use std::alloc::{AllocError, Global};
 use std::collections::BTreeMap;
 use std::marker::Model;
 
-/// The values at places, each place by index and sub.
+/// The values at places, each place by index and sub, with marks by which most places without one are told.
 #[derive(Drop)]
 pub(crate) struct Table {
     pub(crate) held: BTreeMap<(u16, u8), Held>,
+    marks: Marks,
 }
 
 impl Model for Table {
     ghost use Rattle.std.specs.Coded.{coded_ℕ, coded_list, coded×};
     ghost use Rattle.std.specs.FinMap as map;
+    ghost use Rattle.dict_values.specs.Marks.{AreMarked};
     ghost use Rattle.dict_values.specs.Values.{Values};
 
     ghost Value = { Values };
@@ -27,6 +30,8 @@ impl Model for Table {
     ghost coded = { map.code (coded× coded_ℕ coded_ℕ) (coded_list coded_ℕ) };
 
     ghost view = { λ table. map.from_entries table.held.entries };
+
+    ghost invariant = { λ table. AreMarked table.marks (map.from_entries table.held.entries) };
 }
 
 impl Table {
@@ -36,6 +41,7 @@ impl Table {
     {
         Table {
             held: BTreeMap::new(alloc),
+            marks: Marks::none(),
         }
     }
 
@@ -46,11 +52,14 @@ impl Table {
         self.held.is_empty()
     }
 
-    /// The value at a place, if it has one.
+    /// The value at a place, if it has one. Nothing is looked for where its mark isn't set.
     pub(crate) fn get(&self, place: (u16, u8)) -> Option<&[u8]>
         ensures value { option_copied result ≡ map.get self.now place }
         ensures short { IfSome result (λ bytes. length bytes.now ≤ longest_value) }
     {
+        if !self.marks.has(place) {
+            return None;
+        }
         match self.held.get(&place) {
             Some(value) => Some(value.as_slice()),
             None => None,
@@ -63,6 +72,7 @@ impl Table {
         ensures err { OnErr result (self.new ≡ self.old) }
     {
         self.held.insert(place, value)?;
+        self.marks = self.marks.with(place);
         Ok(())
     }
 
@@ -80,6 +90,7 @@ impl Clone for Table {
     fn clone(&self) -> Result<Table, AllocError> {
         Ok(Table {
             held: self.held.clone()?,
+            marks: self.marks,
         })
     }
 }

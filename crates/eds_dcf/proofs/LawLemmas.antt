@@ -12,7 +12,7 @@ use Rattle.std.specs.Option.{option_or}
 use Rattle.ini_text.proofs.NameLemmas.{same_as, same_sym}
 use Rattle.ini_text.specs.Content.{Pair, Section, same, value_at}
 use Rattle.co_values.specs.declared.data_type.DataType.{DataType}
-use Rattle.plain_text.specs.Digits.{digits_number}
+use Rattle.base.specs.Digits.{digits_number}
 use Rattle.co_values.specs.Types.{is_modelled}
 use Rattle.co_values.specs.Values.{text_of_value}
 use Rattle.eds_device.specs.Described.{kind_at}

@@ -14,7 +14,7 @@ use Rattle.std.specs.Option.{option_or}
 use Rattle.std.specs.Str.Parse.{AllDigits, digits_value}
 use Rattle.ini_text.specs.Content.{Section}
 use Rattle.co_dict.specs.Places.{place_cmp}
-use Rattle.plain_text.specs.Digits.{digits_number}
+use Rattle.base.specs.Digits.{digits_number}
 use Rattle.eds_places.proofs.PlaceLemmas.{alike, found_passes, has_place, index_is, origin_has, pairs_sorted}
 use Rattle.eds_device.specs.Names.{index_named}
 use Rattle.eds_device.specs.Origins.{Origin, own, compact, is_index, object_section, origin_of, sub_section}

@@ -7,7 +7,7 @@ use Rattle.std.specs.Char.{to_ascii_lowercase}
 use Rattle.std.specs.Option.{option_zip}
 use Rattle.ini_text.proofs.NameLemmas.{same_folded}
 use Rattle.ini_text.specs.Content.{lower_case, same}
-use Rattle.plain_text.specs.Digits.{digits_number}
+use Rattle.base.specs.Digits.{digits_number}
 use Rattle.eds_device.specs.Names.{index_named, place_named, sub_named, values_named}
 use Rattle.eds_dcf.specs.Commissioning.{first_spelling, is_commissioning, second_spelling}
 use Rattle.eds_dcf.specs.Compact.{values_name}

@@ -17,7 +17,7 @@ use Rattle.std.specs.Str.Parse.{digits_value}
 use Rattle.ini_text.specs.Change.{put_value}
 use Rattle.ini_text.specs.Content.{Pair, Section, same}
 use Rattle.co_values.specs.declared.data_type.DataType.TheVariants.{NotModelled}
-use Rattle.plain_text.specs.Digits.{digits_number}
+use Rattle.base.specs.Digits.{digits_number}
 use Rattle.co_values.specs.Types.{is_modelled}
 use Rattle.co_values.specs.Values.{text_of_value}
 use Rattle.eds_places.proofs.PlaceLemmas.{found_passes, index_is}

@@ -15,7 +15,7 @@ use Rattle.std.specs.Str.Parse.{digits_value}
 use Rattle.ini_text.proofs.NameLemmas.{same_folded}
 use Rattle.ini_text.specs.Content.{lower_case, same}
 use Rattle.ini_text.specs.Printable.{has_byte, IsName}
-use Rattle.plain_text.specs.Digits.{digits_number}
+use Rattle.base.specs.Digits.{digits_number}
 use Rattle.eds_device.specs.Names.{index_named, values_named}
 use Rattle.eds_dcf.specs.Commissioning.{first_spelling}
 use Rattle.eds_dcf.specs.Compact.{values_name}

@@ -16,8 +16,8 @@ use crate::printing::{put_line, put_name, put_pairs, put_settings};
 use crate::setting::Setting;
 use crate::values::{NR_OF_ENTRIES, put_values};
 use crate::written::Written;
+use base::index_digits;
 use eds_device::{DataSheet, Origin, Section, compact_count, kind_of};
-use plain_text::index_digits;
 use std::alloc::{AllocError, Global};
 
 /// A compact object's section, and its highest sub-index.

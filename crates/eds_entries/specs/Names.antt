@@ -3,7 +3,7 @@ use Rattle.std.specs.Prelude.{ℕ, ◌==◌, nat_le, nat_lt, if◌then◌else◌
 use Rattle.std.specs.Prelude.{option_and_then, codes}
 use Rattle.std.specs.Option.{option_zip}
 use Rattle.ini_text.specs.Content.{same}
-use Rattle.plain_text.specs.Digits.{digits_number}
+use Rattle.base.specs.Digits.{digits_number}
 
 -- `xxxx`: an index of four hexadecimal digits
 unfoldable pub index_named : List ℕ → Option ℕ

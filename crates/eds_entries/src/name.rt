@@ -3,7 +3,7 @@ ghost use Rattle.std.specs.Prelude.{◌≡◌};
 ghost use Rattle.ini_text.specs.Content.{same};
 ghost use Rattle.eds_entries.specs.Names.{index_named, sub_named, sub_listed, place_named, values_named};
 
-use plain_text::read_digits;
+use base::read_digits;
 
 /// The index that a name of four hexadecimal digits is, in any case, as `1A00`.
 #[tactic(auto, unfolding(crate::specs::Names::index_named))]

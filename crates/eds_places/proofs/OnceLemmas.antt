@@ -7,7 +7,7 @@ use Rattle.std.specs.List.{AllByRecursion, Contains, list_all}
 use Rattle.std.specs.Str.Parse.{digits_value, digits_value_after}
 use Rattle.std.proofs.lemmas.Bool.{eqb-true, false≢true}
 use Rattle.std.proofs.lemmas.Slice.Eq.{bytes_eq-Decides}
-use Rattle.plain_text.specs.Digits.{digits_number}
+use Rattle.base.specs.Digits.{digits_number}
 use Rattle.ini_text.specs.Content.{Section, lower_case, same, content_of}
 use Rattle.ini_text.specs.Printable.{AreApart, same_name}
 use Rattle.ini_text.proofs.NameLemmas.{same_sym}

@@ -6,9 +6,9 @@ use Rattle.std.specs.List.{prefix_len, suffix_len, position_or_len, before_first
 use Rattle.std.specs.List.{starts_with}
 use Rattle.std.specs.Bool.{nat_eq}
 use Rattle.std.specs.Str.{byte}
-pub use Rattle.plain_text.specs.Blanks.{tab, trim_start, trim_end}
-pub use Rattle.plain_text.specs.Lines.{line_feed, carriage_return, is_cr}
-unfoldable pub use Rattle.plain_text.specs.Lines.{split_once, lines_of}
+pub use Rattle.base.specs.Blanks.{tab, trim_start, trim_end}
+pub use Rattle.base.specs.Lines.{line_feed, carriage_return, is_cr}
+unfoldable pub use Rattle.base.specs.Lines.{split_once, lines_of}
 
 -- the byte order mark of UTF-8: EF BB BF
 abbrev pub byte_order_mark : List ℕ

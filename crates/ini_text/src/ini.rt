@@ -17,8 +17,8 @@ use crate::number::is_zero;
 use crate::section::Section;
 use crate::table::{add_at, open, print, set_in};
 use crate::text::{has_bad_byte, is_out_of_range, without_mark};
+use base::next_line;
 use indexmap::IndexMap;
-use plain_text::next_line;
 use std::alloc::{AllocError, Global};
 use std::marker::Model;
 

@@ -6,7 +6,7 @@ ghost use Rattle.std.specs.Option.{option_map};
 ghost use Rattle.ini_text.specs.Text.{is_blank, is_cr, trim_start, trim_end, trim_line, split_once, lines_of};
 ghost use Rattle.ini_text.specs.Text.{without_mark, is_long_line, is_out_of_range, is_bad_byte, has_bad_byte};
 
-use plain_text::{next_line, without_crs};
+use base::{next_line, without_crs};
 
 const MAX_LINE: usize = 4096;
 
@@ -83,7 +83,7 @@ pub fn is_long_line(line: &[u8]) -> bool
     without_crs(line).len() > MAX_LINE
 }
 
-#[tactic(auto, using(plain_text::proofs::LineLemmas::lines_of_empty))]
+#[tactic(auto, using(base::proofs::LineLemmas::lines_of_empty))]
 fn has_long_line(text: &[u8]) -> bool
     ensures { result ≡ list_any is_long_line (lines_of text.now) }
 {

@@ -12,9 +12,10 @@ ghost use Rattle.project_parts.specs.Reached.{for_plan, for_writes, of_nodes, ow
 ghost use Rattle.kept_parts.specs.Kept.{is_unmarked, kept_inputs, HaveNoMark, IsOf};
 
 use crate::kept_parts::KeptParts;
+use base::{Shared, share_of};
 use co_project::Project;
 use eds_device::DataSheet;
-use kept_values::{Meter, Shared, share_of};
+use kept_values::Meter;
 use pdo_plan::Plan;
 use project_parts::{
     ConciseNow, DcfNow, DeviceWrites, NodeDevices, Part, PlanNow, WritesNow, share_written,
@@ -54,8 +55,7 @@ impl KeptParts {
     ) -> Result<NodeDevices, AllocError>
         requires { IsOf project.now self.old }
         ensures is_of { IsOf project.now self.new }
-        ensures brings { OnOk result (AreBrought same_part (inputs_of project.now)
-            (of_nodes project.now)
+        ensures brings { OnOk result (AreBrought same_part (inputs_of project.now) (of_nodes project.now)
             (kept_inputs self.old) (kept_inputs self.new) meter.old meter.new) }
         ensures value { IfOk result (λ d. d ≡ filter_map (node_with_device project.now) (finmap.entries project.now.nodes)) }
         ensures unmarked { OnOk result (HaveNoMark self.new (of_nodes project.now)) }
@@ -149,8 +149,7 @@ impl KeptParts {
         Ok(plan)
     }
 
-    /// Brings the device of a node up to date, and shares it. Want of memory is the only
-    /// error.
+    /// Brings the device of a node up to date, and shares it. Want of memory is the only error.
     pub(crate) fn bring_own_device(
         &mut self,
         project: &Project,

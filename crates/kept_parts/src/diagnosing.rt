@@ -9,9 +9,10 @@ ghost use Rattle.project_plan.specs.Network.{plan_of_project};
 ghost use Rattle.kept_parts.specs.Kept.{kept_inputs, IsOf};
 
 use crate::kept_parts::KeptParts;
+use base::Shared;
 use co_diag::diagnostics_by;
 use co_project::Project;
-use kept_values::{Meter, Shared};
+use kept_values::Meter;
 use pdo_plan::Plan;
 use project_parts::{Diagnostics, DiagnosticsNow, Part};
 use project_plan::Library;

@@ -11,12 +11,12 @@ ghost use Rattle.project_parts.specs.Reached.{parts_for, reached_by_trace, IsPar
 ghost use Rattle.kept_parts.specs.Kept.{kept_inputs, IsCurrent, IsOf};
 ghost use Rattle.kept_parts.specs.Left.{left_of, IsSwept};
 
+use base::{ListedBytes, ListedText, Shared};
 use co_project::Project;
 use image_parts::Roster;
-use kept_values::{Memo, Meter, Shared, Shelf};
+use kept_values::{Memo, Meter, Shelf};
 use part_shelves::{DeviceShelf, WindowShelf};
 use pdo_plan::Plan;
-use plain_text::{ListedBytes, ListedText};
 use project_parts::{
     ConciseFrom, DcfFrom, DeviceAt, DeviceParts, DeviceWrites, Diagnostics, DiagnosticsFrom, Part,
     PlanFrom, RosterFrom, WritesFrom,

@@ -5,10 +5,10 @@ ghost use Rattle.project_plan.specs.Network.{device_at};
 ghost use Rattle.kept_parts.specs.Kept.{IsOf};
 
 use crate::kept_parts::KeptParts;
+use base::{Shared, share_of};
 use co_project::Project;
 use eds_dcf::Template;
 use eds_device::DataSheet;
-use kept_values::{Shared, share_of};
 use std::alloc::AllocError;
 
 impl KeptParts {

@@ -9,10 +9,11 @@ ghost use Rattle.project_parts.specs.Reached.{own_device, parts_for, IsPart};
 ghost use Rattle.kept_parts.specs.Kept.{kept_inputs, IsOf};
 
 use crate::kept_parts::KeptParts;
+use base::Shared;
 use co_project::Project;
 use eds_device::DataSheet;
 use image_parts::WINDOW;
-use kept_values::{Meter, Shared};
+use kept_values::Meter;
 use network_image::window_steps;
 use project_parts::{DeviceAt, Part, RosterNow};
 use std::alloc::AllocError;
@@ -51,8 +52,7 @@ impl KeptParts {
     ) -> Result<Option<DeviceAt>, AllocError>
         requires { IsOf project.now self.old }
         ensures is_of { IsOf project.now self.new }
-        ensures brings { OnOk result (AreBrought same_part (inputs_of project.now)
-            (own_device project.now node)
+        ensures brings { OnOk result (AreBrought same_part (inputs_of project.now) (own_device project.now node)
             (kept_inputs self.old) (kept_inputs self.new) meter.old meter.new) }
         ensures value { IfOk result (λ d. d ≡ device_from project.now node) }
         ensures rises { Rises meter.old meter.new }

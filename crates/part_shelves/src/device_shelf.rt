@@ -12,10 +12,11 @@ ghost use Rattle.part_shelves.specs.Slots.{fresh_at, fresh_slot, text_kept, with
 
 use crate::eds_text::keep_device;
 use crate::seat::Seat;
+use base::{Shared, share_of};
 use co_project::Project;
 use eds_dcf::Template;
 use eds_device::DataSheet;
-use kept_values::{Meter, Shared, share_of};
+use kept_values::Meter;
 use std::alloc::{AllocError, Global};
 use std::collections::BTreeMap;
 use std::marker::Model;

@@ -1,8 +1,9 @@
 //! A device that is kept.
 
 use crate::eds_text::EdsText;
+use base::Shared;
 use eds_device::DataSheet;
-use kept_values::{Kept, Shared};
+use kept_values::Kept;
 
 /// A device with its text, and whether that is known to be the text of now.
 #[derive(Drop)]

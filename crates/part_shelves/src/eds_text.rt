@@ -4,10 +4,10 @@ ghost use Rattle.std.specs.Arc.{arc_value};
 ghost use Rattle.eds_device.specs.Faults.{device_of};
 ghost use Rattle.ini_text.specs.Content.{content_of};
 
-use base::Octets;
+use base::{Octets, Shared};
 use co_project::read_device;
 use eds_device::DataSheet;
-use kept_values::{Kept, Makes, Shared};
+use kept_values::{Kept, Makes};
 use std::alloc::{AllocError, Global};
 use std::marker::Model;
 use std::sync::Arc;

@@ -5,9 +5,10 @@ ghost use Rattle.part_shelves.specs.Slots.{fresh_slot};
 
 use crate::device_slot::DeviceSlot;
 use crate::eds_text::EdsText;
+use base::Shared;
 use eds_dcf::Template;
 use eds_device::DataSheet;
-use kept_values::{Kept, Shared};
+use kept_values::Kept;
 use std::alloc::{AllocError, Global};
 use std::marker::Model;
 

@@ -5,9 +5,10 @@ ghost use Rattle.kept_values.specs.Shelved.{is_fresh, kept_at};
 ghost use Rattle.kept_values.specs.Work.{Refreshes, Rises};
 ghost use Rattle.part_shelves.specs.Busy.{has_steps};
 
+use base::Shared;
 use co_scenario::{TimedStep, same_steps};
 use image_parts::Window;
-use kept_values::{Meter, Shared};
+use kept_values::Meter;
 use std::alloc::{AllocError, Global};
 use std::collections::BTreeMap;
 use std::marker::Model;

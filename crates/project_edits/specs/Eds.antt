@@ -2,8 +2,8 @@
 use Rattle.std.specs.Prelude.{◌≡◌, ◌≤◌, ℕ, Bool, true, ◌||◌, not, List, [], ◌∷◌, ◌++◌, map, length, nat_lt, ◌==◌}
 use Rattle.std.specs.Prelude.{Result, Ok, Vec}
 use Rattle.std.specs.List.{flat_map, list_any}
-use Rattle.plain_text.specs.Blanks.{trim_end}
-use Rattle.plain_text.specs.Lines.{is_cr, line_feed, lines_of}
+use Rattle.base.specs.Blanks.{trim_end}
+use Rattle.base.specs.Lines.{is_cr, line_feed, lines_of}
 use Rattle.ini_text.specs.Text.{is_bad_byte, is_long_line}
 use Rattle.ini_text.specs.Content.{content_of}
 use Rattle.eds_device.specs.Faults.{most_entries, device_of}

@@ -1,6 +1,6 @@
 -- The faults of commands, and the replies to refused commands (this profile's own).
 use Rattle.std.specs.Prelude.{ℕ, Bool, true, false, List, codes, ◌++◌, [], ◌∷◌, Result, Ok, Err}
-use Rattle.plain_text.specs.Lines.{line_feed}
+use Rattle.base.specs.Lines.{line_feed}
 use Rattle.ini_text.specs.Content.{Content}
 use Rattle.eds_places.specs.declared.fault.DeviceFault.{DeviceFault}
 use Rattle.ini_text.specs.Content.{Content}

@@ -3,7 +3,7 @@ use Rattle.std.specs.Prelude.{ℕ, Bool, ◌||◌, ◌&&◌, not, List, length, 
 use Rattle.std.specs.Prelude.{Err}
 use Rattle.std.specs.List.{list_any, list_all}
 use Rattle.std.specs.Str.{byte, bytes_eq}
-use Rattle.plain_text.specs.Blanks.{tab, trim}
+use Rattle.base.specs.Blanks.{tab, trim}
 use Rattle.base.specs.Ranges.{is_between}
 use Rattle.cia301.specs.PdoObjects.{is_of_pdos}
 use Rattle.project_edits.specs.declared.fault.EditFault.{EditFault}

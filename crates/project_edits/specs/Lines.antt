@@ -1,8 +1,8 @@
 -- Edits as lines, as `project` prints them (this profile's own).
 use Rattle.std.specs.Prelude.{ℕ, Bool, List, [], ◌∷◌, ◌++◌, codes, decimal, if◌then◌else◌}
 use Rattle.std.specs.Str.{byte}
-use Rattle.plain_text.specs.Digits.{byte_digits, index_digits, identifier_digits}
-use Rattle.plain_text.specs.Lines.{line_feed, line_count}
+use Rattle.base.specs.Digits.{byte_digits, index_digits, identifier_digits}
+use Rattle.base.specs.Lines.{line_feed, line_count}
 use Rattle.co_scenario.specs.declared.event.Event.{Event}
 use Rattle.co_scenario.specs.declared.event.Event.TheVariants as event
 use Rattle.co_scenario.specs.Commands.{number_of}

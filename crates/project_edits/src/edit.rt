@@ -2,9 +2,8 @@
 
 use crate::manager_settings::ManagerSettings;
 use crate::script_version::ScriptVersion;
-use base::Octets;
+use base::{Octets, Shared};
 use co_scenario::TimedEvent;
-use kept_values::Shared;
 use project_messages::Message;
 
 /// What an edit does to a project.

@@ -5,7 +5,7 @@
 ghost use Rattle.std.specs.Prelude.{◌≡◌, ◌++◌, ◌∷◌, ◌<◌, OnOk, OnErr, decimal};
 ghost use Rattle.std.specs.Io.{StartsWith};
 ghost use Rattle.std.specs.Str.{byte};
-ghost use Rattle.plain_text.specs.Digits.{identifier_digits};
+ghost use Rattle.base.specs.Digits.{identifier_digits};
 ghost use Rattle.project_edits.specs.Lines.{text_of};
 ghost use Rattle.project_edits.specs.declared.edit.Edit.TheVariants as edit;
 

@@ -11,7 +11,7 @@ ghost use Rattle.project_edits.specs.declared.edit.Edit.TheVariants as edit;
 use crate::manager_settings::ManagerSettings;
 use crate::script_version::ScriptVersion;
 use crate::written::{write_number, write_target, write_word};
-use plain_text::line_count;
+use base::line_count;
 use std::alloc::{AllocError, Global};
 
 /// Writes `version V`.

@@ -2,9 +2,9 @@
 ghost use Rattle.std.specs.Prelude.{◌≡◌, ◌<◌, ◌≤◌, ◌++◌, ◌∷◌, decimal, drop, length, OnOk, OnErr};
 ghost use Rattle.std.specs.Io.{StartsWith};
 ghost use Rattle.std.specs.Str.{byte};
-ghost use Rattle.plain_text.specs.Digits.{byte_digits, index_digits, identifier_digits};
+ghost use Rattle.base.specs.Digits.{byte_digits, index_digits, identifier_digits};
 
-use plain_text::{byte_digits, identifier_digits, index_digits};
+use base::{byte_digits, identifier_digits, index_digits};
 use std::alloc::AllocError;
 
 /// Writes a space and a word.

@@ -1,7 +1,7 @@
 //! What the concise DCF of a node is built from.
 
-use kept_values::{Makes, Shared};
-use plain_text::ListedBytes;
+use base::{ListedBytes, Shared};
+use kept_values::Makes;
 use project_plan::NodeWrites;
 
 /// The writes of a node.

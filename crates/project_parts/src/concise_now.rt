@@ -4,9 +4,9 @@ ghost use Rattle.project_parts.specs.Offered.{concise_by, offered_concise};
 
 use crate::concise_from::ConciseFrom;
 use crate::device_writes::DeviceWrites;
+use base::{ListedBytes, Shared};
 use concise_dcf::{encode, same_writes};
-use kept_values::{Offers, Shared};
-use plain_text::ListedBytes;
+use kept_values::Offers;
 use project_plan::NodeWrites;
 use std::alloc::{AllocError, Global};
 

@@ -1,9 +1,8 @@
 //! What the DCF of a node is built from.
 
-use base::Octets;
+use base::{ListedText, Octets, Shared};
 use eds_device::DataSheet;
-use kept_values::{Makes, Shared};
-use plain_text::ListedText;
+use kept_values::Makes;
 use project_plan::NodeWrites;
 
 /// The device, the name, the writes and the number of a node, and the bit rate in kbit/s.

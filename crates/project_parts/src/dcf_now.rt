@@ -4,12 +4,11 @@ ghost use Rattle.ini_text.specs.Content.{Content};
 
 use crate::dcf_from::DcfFrom;
 use crate::device_writes::DeviceWrites;
-use base::Octets;
+use base::{ListedText, Octets, Shared};
 use co_project::Project;
 use concise_dcf::same_writes;
 use eds_dcf::Template;
-use kept_values::{Offers, Shared};
-use plain_text::ListedText;
+use kept_values::Offers;
 use std::alloc::{AllocError, Global};
 
 /// The writes of a node with its device, its name and its number, and the bit rate in kbit/s. A template that

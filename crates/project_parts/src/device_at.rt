@@ -2,9 +2,10 @@
 ghost use Rattle.std.specs.Prelude.{◌≡◌, ◌↔◌, IfOk, IsTrue};
 
 use crate::device_parts::DeviceParts;
+use base::Shared;
 use eds_device::DataSheet;
 use image_parts::Identity;
-use kept_values::{Makes, Offers, Shared};
+use kept_values::{Makes, Offers};
 use std::alloc::{AllocError, Global};
 
 /// The device and the number of a node.

@@ -1,9 +1,9 @@
 //! What a simulation reads of a node by its device.
 ghost use Rattle.std.specs.Prelude.{◌≡◌, IfOk};
 
+use base::Shared;
 use co_dict::{Dict, Shape};
 use image_parts::Identity;
-use kept_values::Shared;
 use std::alloc::{AllocError, Global};
 
 /// What a simulation reads of a node by its device alone: three things that are found together, since they are

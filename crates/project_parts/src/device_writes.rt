@@ -4,9 +4,9 @@ ghost use Rattle.ini_text.specs.Change.{text_of};
 ghost use Rattle.eds_dcf.specs.Dcf.{dcf_sections};
 ghost use Rattle.project_parts.specs.Written.{AreValuesOf};
 
+use base::Shared;
 use eds_dcf::Template;
 use eds_device::DataSheet;
-use kept_values::Shared;
 use project_plan::NodeWrites;
 use std::alloc::{AllocError, Global};
 use std::marker::Model;

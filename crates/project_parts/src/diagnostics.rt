@@ -1,10 +1,10 @@
 //! Diagnostics with their lines and the reply that shows these.
 ghost use Rattle.std.specs.Prelude.{◌≡◌, IfOk};
 ghost use Rattle.diag_lines.specs.Lines.{diag_text};
-ghost use Rattle.plain_text.specs.Replies.{lines_reply};
+ghost use Rattle.base.specs.Replies.{lines_reply};
 
+use base::ListedText;
 use diag_lines::Diag;
-use plain_text::ListedText;
 use std::alloc::{AllocError, Global};
 use std::marker::Model;
 

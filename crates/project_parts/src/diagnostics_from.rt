@@ -1,8 +1,9 @@
 //! What diagnostics are built from.
 
 use crate::diagnostics::Diagnostics;
+use base::Shared;
 use co_project::Project;
-use kept_values::{Makes, Shared};
+use kept_values::Makes;
 
 /// The project, which shares its texts with the one that it was copied from. The plan of its messages is
 /// defined by it.

@@ -4,8 +4,9 @@ ghost use Rattle.co_diag.specs.Found.{diagnostics_of};
 
 use crate::diagnostics::Diagnostics;
 use crate::diagnostics_from::DiagnosticsFrom;
+use base::Shared;
 use co_project::Project;
-use kept_values::{Offers, Shared};
+use kept_values::Offers;
 use std::alloc::{AllocError, Global};
 
 /// A project with its diagnostics.

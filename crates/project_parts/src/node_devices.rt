@@ -4,8 +4,8 @@ ghost use Rattle.std.specs.Option.{option_to_list};
 ghost use Rattle.pdo_stations.specs.Shown.{nodes_of};
 ghost use Rattle.project_parts.specs.Made.{sections_if};
 
+use base::Shared;
 use eds_device::DataSheet;
-use kept_values::Shared;
 use project_plan::Named;
 use std::alloc::{AllocError, Global};
 use std::marker::Model;

@@ -1,7 +1,8 @@
 //! What the plan of messages is built from.
 
 use crate::node_devices::NodeDevices;
-use kept_values::{Makes, Shared};
+use base::Shared;
+use kept_values::Makes;
 use pdo_plan::Plan;
 use project_messages::Messages;
 

@@ -4,7 +4,8 @@ ghost use Rattle.project_parts.specs.Made.{plan_made};
 
 use crate::node_devices::NodeDevices;
 use crate::plan_from::PlanFrom;
-use kept_values::{Offers, Shared};
+use base::Shared;
+use kept_values::Offers;
 use pdo_plan::Plan;
 use project_messages::Messages;
 use project_plan::Named;

@@ -1,7 +1,8 @@
 //! What the roster is built from.
 
+use base::Shared;
 use image_parts::Roster;
-use kept_values::{Makes, Shared};
+use kept_values::Makes;
 
 /// The roster itself: bit rate, manager, when it starts nodes, and node numbers.
 #[derive(Drop)]

@@ -2,9 +2,10 @@
 ghost use Rattle.project_parts.specs.Given.{roster_from};
 
 use crate::roster_from::RosterFrom;
+use base::Shared;
 use co_project::Project;
 use image_parts::Roster;
-use kept_values::{Offers, Shared};
+use kept_values::Offers;
 use network_image::{is_roster, make_roster};
 use std::alloc::{AllocError, Global};
 

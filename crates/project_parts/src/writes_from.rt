@@ -1,8 +1,9 @@
 //! What the writes of a node are built from.
 
 use crate::device_writes::DeviceWrites;
+use base::Shared;
 use eds_device::DataSheet;
-use kept_values::{Makes, Shared};
+use kept_values::Makes;
 use node_parameters::Params;
 use pdo_plan::Plan;
 

@@ -3,9 +3,10 @@ ghost use Rattle.pdo_plan.specs.Plan.{IsMadeFor};
 
 use crate::device_writes::DeviceWrites;
 use crate::writes_from::WritesFrom;
+use base::Shared;
 use co_project::Project;
 use eds_device::DataSheet;
-use kept_values::{Offers, Shared};
+use kept_values::Offers;
 use node_parameters::Params;
 use pdo_plan::Plan;
 use project_plan::NodeWrites;

@@ -12,7 +12,7 @@ use Rattle.std.proofs.lemmas.Bool.Decides.{nat_tests}
 use Rattle.std.specs.List.{list_any}
 use Rattle.ini_text.proofs.ReadLemmas.{read_is_printable}
 use Rattle.concise_dcf.specs.declared.write.Write.{Write}
-use Rattle.plain_text.specs.Lines.{lines_of}
+use Rattle.base.specs.Lines.{lines_of}
 use Rattle.project_edits.specs.Eds.{most_bytes, most_lines, text_of as kept_text, IsEds}
 use Rattle.project_edits.specs.Edits.{IsSetting}
 use Rattle.project_edits.specs.Forms.{is_name}

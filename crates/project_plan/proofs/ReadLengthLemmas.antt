@@ -9,8 +9,8 @@ use Rattle.std.proofs.lemmas.Bool.{ltb-false, or_parts}
 use Rattle.std.proofs.lemmas.Bool.Decides.{nat_tests}
 use Rattle.std.proofs.lemmas.List.{length-take-le, reverse-append}
 use Rattle.std.proofs.lemmas.List.Sums.{suffix_len-le-length}
-use Rattle.plain_text.specs.Blanks.{trim_end, trim_start}
-use Rattle.plain_text.specs.Lines.{is_cr}
+use Rattle.base.specs.Blanks.{trim_end, trim_start}
+use Rattle.base.specs.Lines.{is_cr}
 use Rattle.ini_text.specs.Text.{byte_order_mark, is_blank, is_long_line, lines_of, split_once, trim_line, without_mark}
 use Rattle.ini_text.specs.Line.{Line, nothing, header, pair, other, unless_empty, header_name, key_value, pair_or_other}
 use Rattle.ini_text.specs.Line.{header_or, meaning, line_of}

@@ -10,8 +10,8 @@ use Rattle.std.proofs.lemmas.List.{length-take, reverse-append}
 use Rattle.std.proofs.lemmas.List.Sums.{prefix_len-le-length, suffix_len-le-length}
 use Rattle.std.proofs.lemmas.Slice.Eq.{bytes_eq-Decides}
 use Rattle.base.specs.Ranges.{is_between}
-use Rattle.plain_text.specs.Blanks.{is_blank, trim_end, trim}
-use Rattle.plain_text.specs.Lines.{is_cr, lines_of}
+use Rattle.base.specs.Blanks.{is_blank, trim_end, trim}
+use Rattle.base.specs.Lines.{is_cr, lines_of}
 use Rattle.project_edits.specs.Eds.{text_of as kept_text}
 use Rattle.project_edits.specs.Forms.{is_control, is_name, is_name_byte, is_plain, is_text}
 use Rattle.ini_text.specs.Text as ini

@@ -4,7 +4,7 @@ ghost use Rattle.std.specs.FinMap as map;
 ghost use Rattle.ini_text.specs.Content.{content_of};
 ghost use Rattle.std.specs.List.{list_any};
 ghost use Rattle.ini_text.specs.Text.{is_long_line, has_bad_byte};
-ghost use Rattle.plain_text.specs.Lines.{lines_of};
+ghost use Rattle.base.specs.Lines.{lines_of};
 ghost use Rattle.project_edits.specs.Eds.{most_bytes, most_lines, IsEds};
 ghost use Rattle.project_edits.specs.Forms.{is_name};
 ghost use Rattle.eds_device.specs.Entries.{entry_at};

@@ -4,9 +4,9 @@ ghost use Rattle.std.specs.FinMap as map;
 ghost use Rattle.project_plan.specs.Library.{with_device, IsRead};
 ghost use Rattle.project_plan.specs.Network.{device_at};
 
+use base::Shared;
 use co_project::{Project, read_device};
 use eds_device::DataSheet;
-use kept_values::Shared;
 use std::alloc::{AllocError, Global};
 use std::collections::BTreeMap;
 use std::marker::Model;

@@ -2,7 +2,7 @@
 use Rattle.std.proofs.Common.{◌≡◌, ℕ, false, List, length, refl, sym, ap, ◌∙◌, Ok, nat_lt}
 use Rattle.std.proofs.lemmas.Bool.{or_parts, le-ltb}
 use Rattle.ini_text.specs.Content.{content_of}
-use Rattle.plain_text.specs.Lines.{lines_of, line_count}
+use Rattle.base.specs.Lines.{lines_of, line_count}
 use Rattle.project_edits.specs.declared.edit.Edit.TheVariants.{Eds}
 use Rattle.project_edits.specs.Eds.{most_lines, most_bytes, has_long_line, eds_edit, IsEds}
 use Rattle.script_commands.proofs.LineFeeds.{no_lf, counted}

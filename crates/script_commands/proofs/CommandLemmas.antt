@@ -11,8 +11,8 @@ use Rattle.co_scenario.specs.Commands.{number_of}
 use Rattle.project_edits.specs.declared.manager_settings.ManagerSettings.{ManagerSettings}
 use Rattle.project_edits.specs.declared.edit.Edit.TheVariants as edit
 use Rattle.script_commands.specs.declared.request.Request.TheVariants.{Block}
-use Rattle.plain_text.specs.Words.{after}
-use Rattle.plain_text.specs.Digits.{byte_digits, index_digits}
+use Rattle.base.specs.Words.{after}
+use Rattle.base.specs.Digits.{byte_digits, index_digits}
 use Rattle.base.specs.Ranges.{is_between, AreIndices}
 use Rattle.project_edits.specs.Forms.{is_name, is_node_or_all, is_bit_rate, is_time, is_sync_period}
 use Rattle.cia301.specs.Limits.{is_node_number}

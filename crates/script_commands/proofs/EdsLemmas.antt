@@ -6,9 +6,9 @@ use Rattle.std.specs.List.{list_any, suffix_len, onto_first}
 use Rattle.std.proofs.lemmas.Bool.{or_from, or_parts, ltb-false}
 use Rattle.std.proofs.lemmas.List.{length-map}
 use Rattle.std.proofs.lemmas.List.Folds.{list_any-append}
-use Rattle.plain_text.specs.Blanks.{trim_end}
-use Rattle.plain_text.specs.Lines.{is_cr}
-use Rattle.plain_text.specs.Lines.{lines_of as text_lines}
+use Rattle.base.specs.Blanks.{trim_end}
+use Rattle.base.specs.Lines.{is_cr}
+use Rattle.base.specs.Lines.{lines_of as text_lines}
 use Rattle.ini_text.specs.Text as ini
 use Rattle.ini_text.specs.Content.{Content, content_of}
 use Rattle.eds_device.specs.Faults.{device_of}

@@ -3,8 +3,8 @@ use Rattle.std.proofs.Common.{◌≡◌, ℕ, ◌-◌, Bool, true, false, cond, 
 use Rattle.std.specs.Prelude.{◌==◌, if◌then◌else◌}
 use Rattle.std.specs.List.{onto_first, AllByRecursion, suffix_len}
 use Rattle.std.proofs.lemmas.List.Sums.{sum_by-append, sum_by-cons, sum_by-take-le}
-use Rattle.plain_text.specs.Blanks.{trim_end}
-use Rattle.plain_text.specs.Lines.{lines_of, line_count, is_cr}
+use Rattle.base.specs.Blanks.{trim_end}
+use Rattle.base.specs.Lines.{lines_of, line_count, is_cr}
 use Rattle.project_edits.specs.Eds.{text_of, text_line}
 
 -- 1 for an LF, and 0 for another byte

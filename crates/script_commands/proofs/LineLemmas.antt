@@ -7,8 +7,8 @@ use Rattle.std.specs.Str.{bytes_eq}
 use Rattle.std.proofs.lemmas.Bool.{and_parts, not-true, le-ltb, leb-true, ltb-true}
 use Rattle.std.proofs.lemmas.List.Folds.{list_any-append}
 use Rattle.std.proofs.lemmas.Slice.Eq.{bytes_eq-Decides}
-use Rattle.plain_text.specs.Blanks.{is_blank, trim_end, trim}
-use Rattle.plain_text.specs.Words.{word, after}
+use Rattle.base.specs.Blanks.{is_blank, trim_end, trim}
+use Rattle.base.specs.Words.{word, after}
 use Rattle.script_commands.specs.declared.request.Request.{Request}
 use Rattle.base.specs.Ranges.{is_between}
 use Rattle.project_edits.specs.Forms.{is_control, is_plain, is_text}

@@ -1,8 +1,8 @@
 -- The commands of messages: what is read behind the first word of each, and the printed line of each read again.
 use Rattle.std.proofs.Common.{◌≡◌, ℕ, ◌^◌, ◌<◌, true, List, [], ◌∷◌, refl, ap, lit≤, arith}
 use Rattle.std.specs.Prelude.{Ok, codes, decimal}
-use Rattle.plain_text.specs.Words.{after}
-use Rattle.plain_text.specs.Digits.{byte_digits, index_digits, identifier_digits}
+use Rattle.base.specs.Words.{after}
+use Rattle.base.specs.Digits.{byte_digits, index_digits, identifier_digits}
 use Rattle.base.specs.Ranges.{is_between, AreIndices}
 use Rattle.project_messages.specs.declared.message.Message.{Message}
 use Rattle.project_messages.specs.Messages.{IsMessage, is_position, is_start}

@@ -7,8 +7,8 @@ use Rattle.std.specs.Str.Parse.{AllDigits}
 use Rattle.std.proofs.lemmas.Bool.{and_parts, cases_lt, lt-ltb, le-ltb, leb-true}
 use Rattle.std.proofs.lemmas.Bool.Decides.{nat_tests}
 use Rattle.std.proofs.lemmas.Fmt.{decimal_is_IsNumeral, length-decimal-le}
-use Rattle.plain_text.specs.Digits.{digits_number, byte_digits, index_digits, identifier_digits}
-use Rattle.plain_text.proofs.DigitLemmas as digits
+use Rattle.base.specs.Digits.{digits_number, byte_digits, index_digits, identifier_digits}
+use Rattle.base.proofs.DigitLemmas as digits
 use Rattle.base.specs.Ranges.{is_between}
 use Rattle.project_edits.specs.Forms.{is_name, is_name_byte}
 use Rattle.script_commands.specs.Words.{name, number, hexadecimal}

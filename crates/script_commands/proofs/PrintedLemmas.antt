@@ -8,8 +8,8 @@ use Rattle.project_edits.specs.declared.manager_settings.ManagerSettings.{Manage
 use Rattle.project_edits.specs.declared.edit.Edit.{Edit}
 use Rattle.project_edits.specs.declared.edit.Edit.TheVariants as edit
 use Rattle.script_commands.specs.declared.request.Request.TheVariants.{Edit as EditAsked}
-use Rattle.plain_text.specs.Digits.{byte_digits, index_digits}
-use Rattle.plain_text.specs.Lines.{line_count}
+use Rattle.base.specs.Digits.{byte_digits, index_digits}
+use Rattle.base.specs.Lines.{line_count}
 use Rattle.project_edits.specs.Eds.{IsEds}
 use Rattle.project_edits.specs.Forms.{is_event_number, is_time}
 use Rattle.script_commands.specs.Requests.{command_of, edit_request, event_at_time, happening_of}

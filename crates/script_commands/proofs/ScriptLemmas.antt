@@ -4,8 +4,8 @@ use Rattle.std.specs.Prelude.{◌==◌}
 use Rattle.std.specs.List.{list_any, onto_first, AllByRecursion}
 use Rattle.std.proofs.lemmas.Bool.{or_parts}
 use Rattle.std.proofs.lemmas.Bool.Decides.{nat_tests}
-use Rattle.plain_text.specs.Blanks.{trim_end}
-use Rattle.plain_text.specs.Lines.{lines_of, line_count, is_cr}
+use Rattle.base.specs.Blanks.{trim_end}
+use Rattle.base.specs.Lines.{lines_of, line_count, is_cr}
 use Rattle.project_edits.specs.declared.edit.Edit.{Edit}
 use Rattle.project_edits.specs.declared.edit.Edit.TheVariants as edit
 use Rattle.project_edits.specs.Forms.{is_control}

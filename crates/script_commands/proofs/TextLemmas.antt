@@ -5,7 +5,7 @@ use Rattle.std.specs.List.{prefix_len, suffix_len}
 use Rattle.std.proofs.Math.Seq.{take-append_seam}
 use Rattle.std.proofs.lemmas.List.{reverse-append, reverse-reverse, length-reverse}
 use Rattle.std.proofs.lemmas.Slice.Eq.{bytes_eq-Decides}
-use Rattle.plain_text.specs.Blanks.{is_blank, trim_start, trim_end, trim}
+use Rattle.base.specs.Blanks.{is_blank, trim_start, trim_end, trim}
 use Rattle.project_edits.specs.Forms.{is_plain, is_text}
 
 module _ (p : ℕ → Bool) where

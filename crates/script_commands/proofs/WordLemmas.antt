@@ -7,8 +7,8 @@ use Rattle.std.proofs.Math.Numerals.{one-add}
 use Rattle.std.proofs.lemmas.Bool.{and_parts}
 use Rattle.std.proofs.lemmas.Bool.Decides.{nat_tests}
 use Rattle.std.proofs.lemmas.List.{take_at, drop_at}
-use Rattle.plain_text.specs.Blanks.{is_blank, trim_start}
-use Rattle.plain_text.specs.Words.{is_word_byte, word, after}
+use Rattle.base.specs.Blanks.{is_blank, trim_start}
+use Rattle.base.specs.Words.{is_word_byte, word, after}
 use Rattle.project_edits.specs.Forms.{is_control}
 
 -- a byte above the space: neither a blank nor a control byte

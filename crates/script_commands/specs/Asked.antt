@@ -1,6 +1,6 @@
 -- What the line of an edit asks (this profile's own).
 use Rattle.std.specs.Prelude.{Some}
-use Rattle.plain_text.specs.Lines.{line_count}
+use Rattle.base.specs.Lines.{line_count}
 use Rattle.project_edits.specs.declared.edit.Edit.{Edit}
 use Rattle.project_edits.specs.declared.edit.Edit.TheVariants as edit
 use Rattle.script_commands.specs.declared.request.Request.{Request}

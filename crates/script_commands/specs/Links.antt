@@ -1,7 +1,7 @@
 -- What is asked behind the first word of each command of messages (this profile's own).
 use Rattle.std.specs.Prelude.{ℕ, List, Result, Ok}
 use Rattle.base.specs.Ranges.{is_between}
-use Rattle.plain_text.specs.Words.{word, after}
+use Rattle.base.specs.Words.{word, after}
 use Rattle.project_messages.specs.declared.message.Message.{Message}
 use Rattle.project_messages.specs.Messages.{is_position, is_start}
 use Rattle.project_edits.specs.declared.fault.EditFault.{EditFault}

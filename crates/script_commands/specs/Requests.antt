@@ -14,8 +14,8 @@ use Rattle.script_commands.specs.declared.request.Request.{Request}
 use Rattle.script_commands.specs.declared.request.Request.TheVariants.{Edit as EditAsked, Query as QueryAsked, Block}
 use Rattle.script_commands.specs.declared.query.Query.{Query}
 use Rattle.script_commands.specs.declared.query.Query.TheVariants.{Dcf, Cdcf, Diag, Trace, Project}
-use Rattle.plain_text.specs.Blanks.{is_blank_line}
-use Rattle.plain_text.specs.Words.{word, after}
+use Rattle.base.specs.Blanks.{is_blank_line}
+use Rattle.base.specs.Words.{word, after}
 use Rattle.project_edits.specs.Eds.{most_lines}
 use Rattle.base.specs.Ranges.{is_between}
 use Rattle.project_edits.specs.Forms.{is_name, number_within, is_node_or_all, is_own_index, is_bit_rate, is_time}

@@ -1,9 +1,9 @@
 -- The words of a command, each read as what it has to be (this profile's own).
 use Rattle.std.specs.Prelude.{ℕ, Bool, ◌||◌, List, length, nat_lt, if◌then◌else◌, Result, Ok, Err, ok_or}
 use Rattle.std.specs.List.{list_any}
-use Rattle.plain_text.specs.Blanks.{is_blank_line, trim}
-use Rattle.plain_text.specs.Words.{word, after}
-use Rattle.plain_text.specs.Digits.{digits_number}
+use Rattle.base.specs.Blanks.{is_blank_line, trim}
+use Rattle.base.specs.Words.{word, after}
+use Rattle.base.specs.Digits.{digits_number}
 use Rattle.project_edits.specs.declared.fault.EditFault.{EditFault}
 use Rattle.project_edits.specs.declared.fault.EditFault.TheVariants.{Syntax}
 use Rattle.project_edits.specs.Forms.{is_control, is_name, is_plain}

@@ -6,11 +6,9 @@ ghost use Rattle.eds_device.specs.Faults.{device_of};
 ghost use Rattle.project_edits.specs.Faults.{is_memory, device_verdict};
 ghost use Rattle.project_edits.specs.Eds.{block_lines, text_of, is_bad_in_line, has_bad_line, has_long_line};
 
-use base::Octets;
+use base::{Octets, Shared, without_crs};
 use eds_device::DataSheet;
 use ini_text::{is_bad_byte, is_long_line};
-use kept_values::Shared;
-use plain_text::without_crs;
 use project_edits::EditFault;
 use std::alloc::{AllocError, Global};
 

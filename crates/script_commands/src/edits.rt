@@ -9,8 +9,7 @@ ghost use Rattle.script_commands.specs.Requests.{drop_eds_of, node_of, is_mandat
 use crate::command::Command;
 use crate::numbers::{decimal, index, sub_index};
 use crate::words::{last_word, name, text};
-use base::Octets;
-use plain_text::next_word;
+use base::{Octets, next_word};
 use project_edits::limits::{
     bit_rate, node_number, number_within, own_index, script_version, sync_counter as last_count,
     sync_period, time,

@@ -1,6 +1,6 @@
 //! Laws of the commands: what is printed is read.
 ghost use Rattle.std.specs.Prelude.{◌≡◌, ◌∷◌, ◌++◌, ℕ, List, Ok, length};
-ghost use Rattle.plain_text.specs.Lines.{lines_of, line_count};
+ghost use Rattle.base.specs.Lines.{lines_of, line_count};
 ghost use Rattle.project_edits.specs.declared.edit.Edit.{Edit};
 ghost use Rattle.project_edits.specs.declared.edit.Edit.TheVariants.{Eds};
 ghost use Rattle.script_commands.specs.Requests.{request};

@@ -10,8 +10,7 @@ use crate::command::Command;
 use crate::numbers::{cob, decimal, index, sub_index};
 use crate::stated::Stated;
 use crate::words::{last_word, name};
-use base::Octets;
-use plain_text::next_word;
+use base::{Octets, next_word};
 use project_edits::limits::{
     byte, identifier, node_number, position, short, sync_start, tpdo_number,
 };

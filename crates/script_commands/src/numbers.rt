@@ -5,7 +5,7 @@ ghost use Rattle.project_edits.specs.Faults.{is_memory};
 ghost use Rattle.base.specs.Ranges.{is_between};
 ghost use Rattle.script_commands.specs.Words.{number, decimal, hexadecimal};
 
-use plain_text::read_digits;
+use base::read_digits;
 use project_edits::EditFault;
 
 /// The number of 1 to `most` digits to a base, letters in any case.

@@ -5,7 +5,7 @@ ghost use Rattle.project_edits.specs.Faults.{is_memory};
 ghost use Rattle.script_commands.specs.Requests.{query_of};
 
 use crate::edits::id;
-use plain_text::is_blank_line;
+use base::is_blank_line;
 use project_edits::EditFault;
 
 /// What a line asks without changing the project.

@@ -15,8 +15,7 @@ use crate::links::{drop_message, message, sink, source, start, unsink, unsource}
 use crate::numbers::decimal;
 use crate::query::Query;
 use crate::words::{is_bad_line, last_word};
-use base::Octets;
-use plain_text::next_word;
+use base::{Octets, next_word};
 use project_edits::{EditFault, is_name};
 use std::alloc::Global;
 

@@ -5,7 +5,7 @@ ghost use Rattle.project_edits.specs.Faults.{is_memory};
 ghost use Rattle.project_edits.specs.Forms.{is_name, is_text};
 ghost use Rattle.script_commands.specs.Words.{last_word, is_bad_line, name, text};
 
-use plain_text::{is_blank_line, next_word, trim};
+use base::{is_blank_line, next_word, trim};
 use project_edits::{EditFault, has_control, is_name, is_plain};
 
 const MAX_LINE: usize = 4096;

@@ -10,8 +10,8 @@ use Rattle.std.proofs.lemmas.List.Elements.{All-head, All-same, All-tail, filter
 use Rattle.can_bus.specs.Lines.{line_time, lines_text}
 use Rattle.can_bus.specs.Runs.{is_shown}
 use Rattle.can_bus.specs.declared.line.Line.{Line}
-use Rattle.plain_text.specs.Lines.{line_count}
-use Rattle.plain_text.proofs.Counts.{line_count-append}
+use Rattle.base.specs.Lines.{line_count}
+use Rattle.base.proofs.Counts.{line_count-append}
 use Rattle.trace_spans.specs.Passages.{lines_of_passages, latest}
 
 -- ---- what is shown

@@ -13,7 +13,7 @@ use Rattle.can_bus.specs.Dues.{IsJustBefore, next_due}
 use Rattle.can_bus.proofs.DueLemmas.{from_due, parts_from}
 use Rattle.can_bus.proofs.DueRunLemmas.{before_first, before_next, due_ahead}
 use Rattle.can_bus.proofs.QuietLemmas.{quiet}
-use Rattle.bus_laws.specs.Spans.{span}
+use Rattle.can_bus.specs.Spans.{span}
 use Rattle.trace_spans.specs.Spans.{IsReady}
 
 idle : (t : ℕ) (s : Bus) → IsJustBefore t s → (u : ℕ) → t ≤ u → u < next_due s → instant u s ≡ Answer (s, [])

@@ -5,7 +5,7 @@ use Rattle.image_parts.specs.Contents.{Image}
 use Rattle.can_bus.specs.Bus.{Bus, blank_bus}
 use Rattle.can_bus.specs.Dues.{IsJustBefore}
 use Rattle.can_bus.specs.declared.line.Line.{Line}
-use Rattle.bus_laws.specs.Spans.{span}
+use Rattle.can_bus.specs.Spans.{span}
 
 -- a bus from which span i can be run by due moments
 abbrev pub IsReady : ℕ → Bus → Type 0

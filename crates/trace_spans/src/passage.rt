@@ -4,7 +4,7 @@
 ghost use Rattle.std.specs.Prelude.{◌≡◌, ◌↔◌, IfOk, IsTrue, filter};
 ghost use Rattle.can_bus.specs.Lines.{lines_text};
 ghost use Rattle.can_bus.specs.Runs.{is_shown};
-ghost use Rattle.plain_text.specs.Lines.{line_count};
+ghost use Rattle.base.specs.Lines.{line_count};
 
 use crate::shown::{last_time, shown_lines};
 use can_bus::Line;
@@ -29,7 +29,7 @@ impl Model for Passage {
     ghost use Rattle.can_bus.specs.Lines.{lines_text};
     ghost use Rattle.can_bus.specs.contracts.line.Line as told;
     ghost use Rattle.can_bus.specs.declared.line.Line.{Line};
-    ghost use Rattle.plain_text.specs.Lines.{line_count};
+    ghost use Rattle.base.specs.Lines.{line_count};
     ghost use Rattle.trace_spans.specs.Passages.{latest};
 
     ghost Value = { List Line };
@@ -50,7 +50,7 @@ impl Passage {
         ensures { IfOk result (λ passage. passage ≡ lines.items) }
     {
         let text = can_bus::text(alloc, &lines)?;
-        let count = plain_text::line_count(&text);
+        let count = base::line_count(&text);
         let last = last_time(&lines);
         Ok(Passage {
             lines,

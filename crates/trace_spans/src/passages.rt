@@ -7,8 +7,8 @@ ghost use Rattle.can_bus.specs.Runs.{is_shown};
 ghost use Rattle.trace_spans.specs.Passages.{lines_of_passages};
 
 use crate::passage::Passage;
+use base::Shared;
 use can_bus::Line;
-use kept_values::Shared;
 use std::alloc::{AllocError, Global};
 
 /// A copy of the lines of passages. Takes time and memory by their number.

@@ -2,7 +2,7 @@
 
 ghost use Rattle.std.specs.Prelude.{◌≡◌, ◌≤◌, ◌+◌, ℕ, length, IfOk, OnOk};
 ghost use Rattle.image_parts.specs.Asking.{outcome, reads};
-ghost use Rattle.bus_laws.specs.Spans.{span};
+ghost use Rattle.can_bus.specs.Spans.{span};
 ghost use Rattle.image_parts.specs.Contents.{Content};
 ghost use Rattle.image_parts.specs.Images.{IsImage};
 ghost use Rattle.trace_spans.specs.Reads.{AreNumbered, AreMarked, LearnsMore, plain};

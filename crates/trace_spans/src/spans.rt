@@ -5,7 +5,7 @@ ghost use Rattle.image_parts.specs.Asking.{outcome, after_reads, reads, turns};
 ghost use Rattle.can_bus.specs.Bus.{instant};
 ghost use Rattle.can_bus.specs.Dues.{IsJustBefore};
 ghost use Rattle.image_parts.specs.Images.{IsImage};
-ghost use Rattle.bus_laws.specs.Spans.{span};
+ghost use Rattle.can_bus.specs.Spans.{span};
 ghost use Rattle.trace_spans.specs.Spans.{IsReady};
 
 use can_bus::{BusState, Lines, Parts};

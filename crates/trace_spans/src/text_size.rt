@@ -3,11 +3,11 @@
 
 ghost use Rattle.std.specs.Prelude.{◌≡◌, IfSome, length};
 ghost use Rattle.can_bus.specs.Lines.{lines_text};
-ghost use Rattle.plain_text.specs.Lines.{line_count};
+ghost use Rattle.base.specs.Lines.{line_count};
 ghost use Rattle.trace_spans.specs.Passages.{lines_of_passages};
 
 use crate::passage::Passage;
-use kept_values::Shared;
+use base::Shared;
 
 /// The size of a text.
 pub(crate) struct TextSize {

@@ -8,9 +8,8 @@ ghost use Rattle.can_bus.specs.Runs.{is_shown};
 use crate::passage::Passage;
 use crate::passages::{cut_all, lines_of, write_all};
 use crate::text_size::{TextSize, size_of_text};
+use base::{ListedText, Shared};
 use can_bus::Line;
-use kept_values::Shared;
-use plain_text::ListedText;
 use std::alloc::{AllocError, Global};
 use std::marker::Model;
 
@@ -76,13 +75,13 @@ impl TraceText {
 
     /// The text of the lines, each ended by LF, with the reply that shows them. Takes time and memory by its
     /// length: each byte is copied once. Want of memory is the only error.
-    #[tactic(auto, unfolding(plain_text::specs::Replies::lines_reply))]
+    #[tactic(auto, unfolding(base::specs::Replies::lines_reply))]
     pub fn listed(&self) -> Result<ListedText, AllocError>
         ensures { IfOk result (λ text. text ≡ lines_text self.now) }
     {
         let passages = self.passages.as_slice();
         let TextSize { lines, bytes } = size_of_text(passages).ok_or(AllocError)?;
-        let mut reply = plain_text::head(self.alloc, lines, bytes)?;
+        let mut reply = base::head(self.alloc, lines, bytes)?;
         let start = reply.len();
         write_all(passages, &mut reply)?;
         Ok(ListedText::of_reply(reply, start))

@@ -3,7 +3,7 @@ use Rattle.std.proofs.Common.{◌≡◌, ℕ, true, false, cond, eqb, List, [], 
 use Rattle.std.proofs.Common.{append_assoc, append-nil, arith}
 use Rattle.std.proofs.lemmas.Bool.{ne_eqb}
 use Rattle.std.specs.List.{onto_first}
-use Rattle.plain_text.specs.Lines.{lines_of}
+use Rattle.base.specs.Lines.{lines_of}
 use Rattle.workbench.specs.Replies.{State, After, start, after_line, after_lines, cut_off, replies, complete_replies}
 use Rattle.workbench.specs.Replies.{before_first, ended_lines}
 use Rattle.workbench.specs.Machine.{Cursor, first_cursor, after, at_break, with_earlier, at_end}

@@ -4,9 +4,9 @@ use Rattle.std.proofs.Common.{Result, Ok, Err, Some, None, refl, sym, ap, ◌∙
 use Rattle.std.specs.List.{list_all}
 use Rattle.std.proofs.Math.Bool.{and-false}
 use Rattle.std.proofs.lemmas.List.Elements.{All-head, All-tail}
-use Rattle.plain_text.specs.Blanks.{is_blank, trim_end}
-use Rattle.plain_text.specs.Lines.{is_cr}
-use Rattle.plain_text.specs.Lines.{lines_of}
+use Rattle.base.specs.Blanks.{is_blank, trim_end}
+use Rattle.base.specs.Lines.{is_cr}
+use Rattle.base.specs.Lines.{lines_of}
 use Rattle.project_edits.specs.declared.fault.EditFault.{EditFault}
 use Rattle.project_edits.specs.declared.edit.Edit.{Edit}
 use Rattle.project_edits.specs.declared.edit.Edit.TheVariants as edit
@@ -16,7 +16,7 @@ use Rattle.project_edits.specs.Eds.{IsEds}
 use Rattle.project_edits.specs.Edits.{IsEdit}
 use Rattle.project_edits.specs.Lines.{words_of, line_of, block_of, text_of}
 use Rattle.script_commands.specs.Asked.{asks}
-use Rattle.plain_text.specs.Lines.{line_count}
+use Rattle.base.specs.Lines.{line_count}
 use Rattle.co_project.specs.Project.{Content, first, accept, accept_all}
 use Rattle.project_script.specs.Script.{edits, script}
 use Rattle.co_project.specs.Sound.{IsSound}

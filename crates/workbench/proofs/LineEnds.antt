@@ -8,9 +8,9 @@ use Rattle.std.proofs.lemmas.Bool.{or_parts}
 use Rattle.std.proofs.lemmas.Bool.Decides.{nat_tests}
 use Rattle.std.proofs.lemmas.List.{reverse-append, take_all}
 use Rattle.std.proofs.lemmas.List.Folds.{list_any-append}
-use Rattle.plain_text.specs.Blanks.{trim_end}
-use Rattle.plain_text.specs.Lines.{is_cr}
-use Rattle.plain_text.specs.Lines.{lines_of}
+use Rattle.base.specs.Blanks.{trim_end}
+use Rattle.base.specs.Lines.{is_cr}
+use Rattle.base.specs.Lines.{lines_of}
 use Rattle.project_edits.specs.declared.fault.EditFault.{EditFault}
 use Rattle.project_edits.specs.declared.fault.EditFault.TheVariants.{Syntax}
 use Rattle.project_edits.specs.declared.edit.Edit.{Edit}
@@ -20,7 +20,7 @@ use Rattle.script_commands.specs.declared.request.Request.TheVariants.{Block}
 use Rattle.project_edits.specs.Accepts.{unless}
 use Rattle.project_edits.specs.Forms.{is_control}
 use Rattle.script_commands.specs.Words.{last_word, decimal, is_bad_line}
-use Rattle.plain_text.specs.Words.{word, after}
+use Rattle.base.specs.Words.{word, after}
 use Rattle.base.specs.Steps.{◌>>=◌}
 use Rattle.script_commands.specs.Requests.{request, block_of as block_asked, block_lines, command_of}
 use Rattle.project_edits.specs.Eds.{eds_edit, text_of}

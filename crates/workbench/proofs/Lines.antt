@@ -2,7 +2,7 @@
 use Rattle.std.proofs.Common.{◌≡◌, ℕ, Bool, true, false, ◌||◌, eqb, List, [], ◌∷◌, ◌++◌, refl, ap, ◌∙◌, append_assoc}
 use Rattle.std.proofs.lemmas.Bool.{true≢false}
 use Rattle.std.specs.List.{onto_first, list_any}
-use Rattle.plain_text.specs.Lines.{lines_of}
+use Rattle.base.specs.Lines.{lines_of}
 use Rattle.workbench.specs.Lines.{has_break, AreLines, with_breaks, if_some}
 use Rattle.workbench.specs.Replies.{replies, replies_to_lines, complete_replies}
 use Rattle.workbench.proofs.Ends.{others, replies-append}

@@ -5,7 +5,7 @@ use Rattle.std.proofs.Common.{subst, arith}
 use Rattle.std.proofs.lemmas.Bool.{ltb-true, ltb-false, true≢false}
 use Rattle.std.proofs.KnownBytes.{Appends-trans}
 use Rattle.std.specs.List.{concat, position_or_len}
-use Rattle.plain_text.specs.Lines.{split_once}
+use Rattle.base.specs.Lines.{split_once}
 use Rattle.workbench.specs.Replies.{After, State, after_line}
 use Rattle.workbench.specs.Machine.{Cursor, after, after_byte, at_break, with_earlier}
 use Rattle.streams.specs.Written.{Took, Posts}

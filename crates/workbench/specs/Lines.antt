@@ -1,7 +1,7 @@
 -- An input as its lines, for the laws.
 use Rattle.std.specs.Prelude.{◌≡◌, ℕ, ◌==◌, Bool, false, List, [], ◌∷◌, ◌++◌}
 use Rattle.std.specs.List.{list_any, flat_map}
-use Rattle.plain_text.specs.Lines.{line_feed}
+use Rattle.base.specs.Lines.{line_feed}
 
 -- whether some byte is an LF
 abbrev pub has_break : List ℕ → Bool

@@ -1,7 +1,7 @@
 -- Private: the same replies byte by byte, as the proofs of this crate walk. `Bytewise` of proofs/ joins them to
 -- Replies.
 use Rattle.std.specs.Prelude.{ℕ, List, [], ◌∷◌, ◌++◌, length, if◌then◌else◌, ◌==◌, Option, Some, None}
-use Rattle.plain_text.specs.Lines.{line_feed}
+use Rattle.base.specs.Lines.{line_feed}
 use Rattle.workbench.specs.Replies.{State, After, start, after_line, cut_off}
 
 -- where a session is in its input: a state, and the line so far

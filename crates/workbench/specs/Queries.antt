@@ -17,7 +17,7 @@ use Rattle.network_image.specs.Image.{image_of}
 use Rattle.co_diag.specs.Found.{diagnostics_of}
 use Rattle.diag_lines.specs.Lines.{diag_text}
 use Rattle.project_plan.specs.Network.{Member, member_at, writes_of}
-use Rattle.plain_text.specs.Hex.{hex_text}
+use Rattle.base.specs.Hex.{hex_text}
 
 -- what is named isn't there
 abbrev pub or_unknown : {X : Type 0} → Option X → Result X EditFault

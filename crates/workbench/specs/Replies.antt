@@ -1,9 +1,9 @@
 -- The replies to an input: a fold over its lines, from the first project (this profile's own).
 use Rattle.std.specs.Prelude.{ℕ, zero, suc, ◌-◌, Bool, ◌&&◌, length, nat_le, List, [], ◌∷◌, ◌++◌, codes, if◌then◌else◌}
 use Rattle.std.specs.Prelude.{◌==◌, Option, Some, None, Result, Ok, Err}
-use Rattle.plain_text.specs.Blanks.{is_blank_line, trim_end}
-use Rattle.plain_text.specs.Lines.{line_feed, is_cr}
-use Rattle.plain_text.specs.Lines.{lines_of}
+use Rattle.base.specs.Blanks.{is_blank_line, trim_end}
+use Rattle.base.specs.Lines.{line_feed, is_cr}
+use Rattle.base.specs.Lines.{lines_of}
 use Rattle.project_edits.specs.declared.fault.EditFault.{EditFault}
 use Rattle.project_edits.specs.declared.fault.EditFault.TheVariants.{Syntax, Truncated}
 use Rattle.project_edits.specs.Faults.{refusal_text}
@@ -13,7 +13,7 @@ use Rattle.script_commands.specs.declared.request.Request.TheVariants.{Edit as E
 use Rattle.script_commands.specs.Requests.{request}
 use Rattle.project_edits.specs.Eds.{eds_edit}
 use Rattle.co_project.specs.Project.{Content, first, accept}
-use Rattle.plain_text.specs.Replies.{lines_reply}
+use Rattle.base.specs.Replies.{lines_reply}
 use Rattle.workbench.specs.Queries.{answer}
 
 -- an `eds` command whose block isn't complete: its name (none where its line wasn't of its form; then the command is

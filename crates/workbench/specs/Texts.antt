@@ -1,7 +1,7 @@
 -- The texts of answers.
 use Rattle.std.specs.Prelude.{ℕ, List}
 use Rattle.diag_lines.specs.Lines.{diag_text}
-use Rattle.plain_text.specs.Hex.{hex_text}
+use Rattle.base.specs.Hex.{hex_text}
 use Rattle.workbench.specs.declared.answers.Answer.{Answer}
 use Rattle.workbench.specs.declared.answers.Answer.TheVariants.{File, Concise, Diagnostics, Made}
 

@@ -5,7 +5,7 @@ use Rattle.project_edits.specs.declared.fault.EditFault.TheVariants.{Memory}
 use Rattle.project_edits.specs.Eds.{block_lines}
 use Rattle.project_edits.specs.Faults.{refusal_text}
 use Rattle.co_project.specs.Project.{Content}
-use Rattle.plain_text.specs.Replies.{lines_reply}
+use Rattle.base.specs.Replies.{lines_reply}
 use Rattle.workbench.specs.Texts.{text_of}
 use Rattle.workbench.specs.declared.cursor.Cursor.{Cursor as TheCursor}
 use Rattle.workbench.specs.declared.open_block.OpenBlock.{OpenBlock as TheBlock}

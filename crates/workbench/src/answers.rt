@@ -1,10 +1,9 @@
 //! Answers with their replies.
 ghost use Rattle.std.specs.Prelude.{◌≡◌};
-ghost use Rattle.plain_text.specs.Replies.{lines_reply};
+ghost use Rattle.base.specs.Replies.{lines_reply};
 ghost use Rattle.workbench.specs.Texts.{text_of};
 
-use kept_values::Shared;
-use plain_text::{ListedBytes, ListedText};
+use base::{ListedBytes, ListedText, Shared};
 use project_parts::Diagnostics;
 
 /// The answer to a query, with the reply that shows its lines. What is kept is shared, not copied.

@@ -9,10 +9,10 @@ ghost use Rattle.project_parts.specs.Reached.{parts_for};
 ghost use Rattle.workbench.specs.Queries.{concise_of, dcf_of};
 ghost use Rattle.kept_values.specs.Work.{Rises};
 
+use base::{ListedBytes, ListedText, Shared};
 use co_project::Project;
 use kept_parts::KeptParts;
-use kept_values::{Meter, Shared};
-use plain_text::{ListedBytes, ListedText};
+use kept_values::Meter;
 use project_parts::Part;
 use std::alloc::AllocError;
 

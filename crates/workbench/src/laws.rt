@@ -1,6 +1,6 @@
 //! Laws of answers, and of replies in the words of inputs and lines.
 ghost use Rattle.std.specs.Prelude.{◌≡◌, ◌≢◌, ◌++◌, ◌∷◌, [], ℕ, List, None, Some, false, map};
-ghost use Rattle.plain_text.specs.Lines.{lines_of};
+ghost use Rattle.base.specs.Lines.{lines_of};
 ghost use Rattle.co_project.specs.Project.{Content};
 ghost use Rattle.project_script.specs.Script.{edits, script};
 ghost use Rattle.co_project.specs.Sound.{IsSound};

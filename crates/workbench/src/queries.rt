@@ -8,8 +8,8 @@ ghost use Rattle.workbench.specs.Texts.{text_of};
 
 use crate::answers::Answer;
 use crate::workbench::Workbench;
+use base::ListedText;
 use co_project::EditFault;
-use plain_text::ListedText;
 use script_commands::Query;
 use std::alloc::Global;
 

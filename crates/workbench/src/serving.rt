@@ -10,7 +10,7 @@ ghost use Rattle.workbench.specs.Written.{Puts};
 use crate::cursor::Cursor;
 use crate::reply::Reply;
 use crate::work::Work;
-use plain_text::split_once;
+use base::split_once;
 use std::alloc::Global;
 use std::mem::ManuallyDrop;
 use streams::{Intake, Outbox, Outlet, SessionFault};

@@ -11,9 +11,8 @@ use crate::open_block::OpenBlock;
 use crate::queries::answer;
 use crate::reply::Reply;
 use crate::workbench::Workbench;
-use base::Octets;
+use base::{Octets, is_blank_line, without_crs};
 use co_project::{Command, EditFault, Request, refusal};
-use plain_text::{is_blank_line, without_crs};
 use script_commands::Query;
 use std::alloc::{AllocError, Global};
 

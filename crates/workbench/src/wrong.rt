@@ -8,9 +8,10 @@ ghost use Rattle.kept_parts.specs.Left.{left_of, IsSwept};
 ghost use Rattle.project_parts.specs.Given.{inputs_of, same_part};
 ghost use Rattle.project_parts.specs.Reached.{parts_for};
 
+use base::{Shared, share_of};
 use co_project::Project;
 use kept_parts::KeptParts;
-use kept_values::{Meter, Shared, share_of};
+use kept_values::Meter;
 use project_parts::{Diagnostics, Part};
 use std::alloc::AllocError;
 

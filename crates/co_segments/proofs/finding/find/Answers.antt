@@ -13,7 +13,7 @@ pub loop-place-init : goal.loop-place-init
 loop-place-init g c = record {
   passed = c.requires.passed;
   stands = c.requires.stands;
-  shelf = refl;
+  recent = refl;
   counted = omega arith;
   kept = refl;
 }
@@ -31,7 +31,7 @@ serves-requires g c =
     let old = c.loop-place.invariant in
     let h = old.stands.told in
     let s = c.in-Some.segment.now in
-    let e = in_lookup c.in-Some.key c.loop-place.stock.shelf.entries s c.in-Some.ensures.held in
+    let e = in_lookup c.in-Some.key c.loop-place.stock.recent.entries s c.in-Some.ensures.held in
     record { meaning = h.meaning; named = h.named (e.0, s) e.1; state = h.state; known = rw old.kept h.known }
 
 pub returns-in_err-serves-clause-segments : goal.returns-in_err-serves-clause-segments
@@ -47,7 +47,7 @@ pub returns-then-branch-clause-found : goal.returns-then-branch-clause-found
 returns-then-branch-clause-found g c =
     let old = c.loop-place.invariant in
     let answer = rw old.kept at c.in_ok-serves.ensures.answer in
-    (c.in-Some.segment.now, (rw old.shelf at c.in-Some.ensures.held, answer.0 c.if-branch.true))
+    (c.in-Some.segment.now, (rw old.recent at c.in-Some.ensures.held, answer.0 c.if-branch.true))
 
 pub returns-then-branch-clause-stands : goal.returns-then-branch-clause-stands
 returns-then-branch-clause-stands g c =
@@ -55,7 +55,7 @@ returns-then-branch-clause-stands g c =
     let old = c.loop-place.invariant in
     let h = old.stands.told in
     let s = c.in-Some.segment.now in
-    let e = in_lookup c.in-Some.key c.loop-place.stock.shelf.entries s c.in-Some.ensures.held in
+    let e = in_lookup c.in-Some.key c.loop-place.stock.recent.entries s c.in-Some.ensures.held in
     let before : Stock = c.loop-place.stock in
     let after : Stock = record before { given = c.serves.new.given } in
     stands_known image before after c.args.number c.loop-place.look c.serves.new.look c.args.here.now old.stands refl
@@ -74,8 +74,8 @@ returns-then-branch-clause-segments g c =
 pub returns-then-branch-clause-counted : goal.returns-then-branch-clause-counted
 returns-then-branch-clause-counted g c =
     let old = c.loop-place.invariant in
-    let xs = entries_of_number c.args.number c.args.stock.now.shelf.entries in
-    let is = rw old.shelf at c.in-Some.ensures.is in
+    let xs = entries_of_number c.args.number c.args.stock.now.recent.entries in
+    let is = rw old.recent at c.in-Some.ensures.is in
     let cut = rest_at xs c.loop-place.place (c.in-Some.key, c.in-Some.segment.now) (sym is) in
     let counted = rw cut at old.counted in
     omega (arith, counted, c.in_ok-serves.ensures.counted)
@@ -85,13 +85,13 @@ loop-place-preserved g c =
     let image = (g.P.Asked.seen c.args.parts.now).image in
     let old = c.loop-place.invariant in
     let h = old.stands.told in
-    let xs = entries_of_number c.args.number c.args.stock.now.shelf.entries in
+    let xs = entries_of_number c.args.number c.args.stock.now.recent.entries in
     elim c.match-at.branch [
       | in-Some+in_ok-serves+else-branch w ↦ (
           let s = w.in-Some.segment.now in
           let rest = drop (c.loop-place.place + 1) xs in
-          let e = in_lookup w.in-Some.key c.loop-place.stock.shelf.entries s w.in-Some.ensures.held in
-          let is = rw old.shelf at w.in-Some.ensures.is in
+          let e = in_lookup w.in-Some.key c.loop-place.stock.recent.entries s w.in-Some.ensures.held in
+          let is = rw old.recent at w.in-Some.ensures.is in
           let cut = rest_at xs c.loop-place.place (w.in-Some.key, s) (sym is) in
           let answer = rw old.kept at w.in_ok-serves.ensures.answer in
           let passed = rw cut at old.passed in
@@ -104,13 +104,13 @@ loop-place-preserved g c =
             stands = stands_known image before after c.args.number c.loop-place.look w.serves.new.look c.args.here.now
                 old.stands refl w.in_ok-serves.ensures.buses
                 ((rw old.kept at w.in_ok-serves.ensures.known) h.meaning.contents h.known (h.named (e.0, s) e.1).reads);
-            shelf = old.shelf;
+            recent = old.recent;
             counted = omega (arith, counted, w.in_ok-serves.ensures.counted);
             kept = w.in_ok-serves.ensures.kept ∙ old.kept;
           })
           )
       | in_default w ↦ (
-          let none = rw old.shelf at w.in_default.ensures.is in
+          let none = rw old.recent at w.in_default.ensures.is in
           absurd (none_there xs c.loop-place.place (omega (arith, c.loop-place-test.true, c.count-place-end.ensures))
           (sym none))
           )
@@ -119,7 +119,7 @@ loop-place-preserved g c =
 pub returns-clause-found : goal.returns-clause-found
 returns-clause-found g c =
     let image = (g.P.Asked.seen c.args.parts.now).image in
-    let xs = entries_of_number c.args.number c.args.stock.now.shelf.entries in
+    let xs = entries_of_number c.args.number c.args.stock.now.recent.entries in
     let all =
     drop_all c.loop-place.place xs (omega (arith, c.loop-place-test.false, c.count-place-end.ensures)) in
     let rest = drop c.loop-place.place xs in

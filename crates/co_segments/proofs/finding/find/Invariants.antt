@@ -10,7 +10,7 @@ invariant-loop-place g l =
     record {
       passed : ArePassed image l.number l.place l.fn.stock l.here.state.bus;
       stands : StandsAt image l.number l.stock l.look l.here;
-      shelf : l.stock.shelf ≡ l.fn.stock.shelf;
+      recent : l.stock.recent ≡ l.fn.stock.recent;
       counted : g.P.Asked.asks l.parts + recorded_of l.number (left_from l.number l.place l.fn.stock)
           ≤ g.P.Asked.asks l.fn.parts + recorded_of l.number (left_from l.number l.from l.fn.stock);
       kept : (g.P.Asked.seen l.parts).image ≡ image;

@@ -8,5 +8,5 @@ use Rattle.co_segments.proofs.rejoining.held_start.Given as goal
 -- none so far starts from the bus
 abbrev pub invariant-loop-place : goal.invariant-loop-place
 invariant-loop-place l = (image : Image)
-    → IsStale image (kept_of (drop l.place (entries_of_number l.number l.shelf.entries))) l.number l.bus
-    → IsStale image (kept_of l.shelf.entries) l.number l.bus
+    → IsStale image (kept_of (drop l.place (entries_of_number l.number l.recent.entries))) l.number l.bus
+    → IsStale image (kept_of l.recent.entries) l.number l.bus

@@ -2,7 +2,7 @@ use Rattle.std.proofs.Common.{◌≡◌, ℕ, ◌+◌, Some, drop, false, nat_eq
 use Rattle.std.proofs.lemmas.Bool.{false≢true}
 use Rattle.std.proofs.lemmas.Option.{same_Some}
 use Rattle.std.specs.Map.{lookup}
-use Rattle.kept_shelf.specs.Shelves.{Shelved, use_first}
+use Rattle.kept_values.specs.LastUsed.{LastUsed, use_first}
 use Rattle.co_segments.specs.declared.reached.Reached.{Reached}
 use Rattle.co_segments.specs.declared.stock.Stock.{Stock}
 use Rattle.co_segments.specs.declared.telling.Telling.{Telling}
@@ -21,32 +21,32 @@ returns-in_err-ahead g c =
     let l = c.in_err-ahead.ensures in
     let telling : Telling = record c.args.telling.now { look = c.look_ahead.new.look } in
     let new = progress c.look_ahead.new.stock telling c.args.meter.now c.look_ahead.new.parts in
-    goes_wrong {new = new} c.from_residual.ensures.0 l.segments (ap (λ (x : Shelved Placed). x.capacity) l.shelf) l.kept
-    (omega arith, omega arith)
+    goes_wrong {new = new} c.from_residual.ensures.0 l.segments
+    (ap (λ (x : LastUsed Placed). x.capacity) l.recent) l.kept (omega arith, omega arith)
 
 pub follow-requires : goal.follow-requires
 follow-requires g c =
     let l = c.in_ok-ahead.ensures in
     let a = rw c.in-Some-true.is at l.answer in
-    rw l.shelf (a.entry, a.next)
+    rw l.recent (a.entry, a.next)
 
 pub returns-in_err-state-in-Some-true : goal.returns-in_err-state-in-Some-true
 returns-in_err-state-in-Some-true g c =
     let l = c.in_ok-ahead.ensures in
     let same = c.in_err-state-in-Some-true.ensures.err in
     let before : Stock = c.look_ahead.new.stock in
-    let after : Stock = record before { shelf = c.follow.new.shelf } in
+    let after : Stock = record before { recent = c.follow.new.recent } in
     let segments =
-    segments_later before after (ap (λ (x : Shelved Placed). x.entries) same) (omega arith, omega arith) l.segments in
+    segments_later before after (ap (λ (x : LastUsed Placed). x.entries) same) (omega arith, omega arith) l.segments in
     let telling : Telling = record { look = c.look_ahead.new.look; told = c.follow.new.told } in
     let new = progress after telling c.args.meter.now c.look_ahead.new.parts in
     goes_wrong {new = new} c.from_residual-in_err-state-in-Some-true.ensures.0 segments
-    (ap (λ (x : Shelved Placed). x.capacity) (same ∙ l.shelf)) l.kept (omega arith, omega arith)
+    (ap (λ (x : LastUsed Placed). x.capacity) (same ∙ l.recent)) l.kept (omega arith, omega arith)
 
 pub returns-in_ok-state-in-Some-true : goal.returns-in_ok-state-in-Some-true
 returns-in_ok-state-in-Some-true g c =
     let image = (g.P.Asked.seen c.args.parts.now).image in
-    let old = c.args.stock.now.shelf in
+    let old = c.args.stock.now.recent in
     let number = c.args.number in
     let here = c.args.here.state.bus in
     let l = c.in_ok-ahead.ensures in
@@ -54,7 +54,7 @@ returns-in_ok-state-in-Some-true g c =
     let e = c.in_ok-state-in-Some-true.ensures in
     let u : ℕ × Placed = e.used.0 in
     let used = e.used.1.1 in
-    let next : slice_get old.ahead 0 ≡ Some u = rw l.shelf at e.used.1.0 in
+    let next : slice_get old.ahead 0 ≡ Some u = rw l.recent at e.used.1.0 in
     let same : a.entry ≡ u = same_Some a.entry u (sym a.next ∙ next) in
     let held : lookup (nat_eq u.0) old.entries ≡ Some u.1 =
     subst (λ (x : ℕ × Placed). lookup (nat_eq x.0) old.entries ≡ Some x.1) same a.held in
@@ -62,9 +62,9 @@ returns-in_ok-state-in-Some-true g c =
     subst (λ (x : ℕ × Placed). Serves image number here x.1.kept) same (a.answer.0 c.in-Some-true.field-0-test) in
     let among = first_from_lookup u.0 old.entries u.1 held in
     let before : Stock = c.look_ahead.new.stock in
-    let after : Stock = record before { shelf = c.follow.new.shelf } in
+    let after : Stock = record before { recent = c.follow.new.recent } in
     let moved = e.first u e.used.1.0 in
-    let first : c.follow.new.shelf ≡ record (use_first u.0 old) { ahead = drop 1 old.ahead } = rw l.shelf at moved in
+    let first : c.follow.new.recent ≡ record (use_first u.0 old) { ahead = drop 1 old.ahead } = rw l.recent at moved in
     let end : Reached = record {
       state = c.in_ok-state-in-Some-true.state;
       is_new = false;
@@ -72,8 +72,8 @@ returns-in_ok-state-in-Some-true g c =
     } in
     let look = c.look_ahead.new.look in
     let stands : StandsAt image (number + 1) after look end =
-    stands_used image before after number look c.args.here end u.0 u.1 l.stands (rw l.shelf held)
-    (ap (λ (x : Shelved Placed). x.entries) moved) (ap (λ (x : Shelved Placed). x.turn) moved) refl used.end_is refl in
+    stands_used image before after number look c.args.here end u.0 u.1 l.stands (rw l.recent held)
+    (ap (λ (x : LastUsed Placed). x.entries) moved) (ap (λ (x : LastUsed Placed). x.turn) moved) refl used.end_is refl in
     record {
       advances = record {
         kept = u.1.kept;
@@ -83,14 +83,14 @@ returns-in_ok-state-in-Some-true g c =
         served = used_served image old.entries number u.0 here u.1 u.1 c.requires.stands.told.sound held serves held;
         end_is = ap (λ (n : Numbered). n.bus) used.end_is;
         told_is = used.told_is;
-        held_is = ap (λ (x : Shelved Placed). kept_of x.entries) first
+        held_is = ap (λ (x : LastUsed Placed). kept_of x.entries) first
             ∙ promoted_fits u.0 old.entries u.1 among old.capacity c.len-count.ensures.fits;
         run = ((omega arith, omega arith), refl);
         counted = omega (arith, a.counted, first_recorded number old.entries a.entry a.first);
       };
       stands = stands;
       segments = segments_from_told image after look end.state stands.told;
-      capacity = ap (λ (x : Shelved Placed). x.capacity) first;
+      capacity = ap (λ (x : LastUsed Placed). x.capacity) first;
       kept = l.kept;
       rises = (omega arith, omega arith);
     }
@@ -98,11 +98,11 @@ returns-in_ok-state-in-Some-true g c =
 pub pass_on-requires : goal.pass_on-requires
 pass_on-requires g c =
     let image = (g.P.Asked.seen c.args.parts.now).image in
-    let es = c.args.stock.now.shelf.entries in
+    let es = c.args.stock.now.recent.entries in
     let l = c.in_ok-ahead.ensures in
     let a = rw c.in-Some-false.is at l.answer in
     record {
-      passed = rw (l.kept, l.shelf) (none_passed image c.args.number c.args.here.state.bus es a.entry.0 a.entry.1
+      passed = rw (l.kept, l.recent) (none_passed image c.args.number c.args.here.state.bus es a.entry.0 a.entry.1
           a.first (λ k. false≢true (sym c.in-Some-false.field-0-test ∙ a.answer.1 k)));
       can = rw l.kept c.requires.can;
       stands = rw l.kept l.stands;
@@ -115,28 +115,28 @@ returns-in_err-end-in-Some-false g c =
     let after = c.pass_on.new in
     let new = progress after.stock after.telling after.meter after.parts in
     goes_wrong {new = new} c.from_residual-in_err-end-in-Some-false.ensures.0 e.segments
-    (omega (arith, e.capacity, ap (λ (x : Shelved Placed). x.capacity) l.shelf)) (rw e.kept l.kept) e.rises
+    (omega (arith, e.capacity, ap (λ (x : LastUsed Placed). x.capacity) l.recent)) (rw e.kept l.kept) e.rises
 
 pub returns-in_ok-end-in-Some-false : goal.returns-in_ok-end-in-Some-false
 returns-in_ok-end-in-Some-false g c =
     let l = c.in_ok-ahead.ensures in
     let a = rw c.in-Some-false.is at l.answer in
-    let few = first_recorded c.args.number c.args.stock.now.shelf.entries a.entry a.first in
+    let few = first_recorded c.args.number c.args.stock.now.recent.entries a.entry a.first in
     let telling : Telling = record c.args.telling.now { look = c.look_ahead.new.look } in
     let between = progress c.look_ahead.new.stock telling c.args.meter.now c.look_ahead.new.parts in
     let after = c.pass_on.new in
     let new = progress after.stock after.telling after.meter after.parts in
     goes_from {between = between} {new = new} c.in_ok-end-in-Some-false.ensures
-    (ap (λ (x : Shelved Placed). kept_of x.entries) l.shelf) (ap (λ (x : Shelved Placed). x.capacity) l.shelf) refl refl
-    l.kept (rw l.shelf (omega (arith, a.counted, few)))
+    (ap (λ (x : LastUsed Placed). kept_of x.entries) l.recent) (ap (λ (x : LastUsed Placed). x.capacity) l.recent)
+    refl refl l.kept (rw l.recent (omega (arith, a.counted, few)))
 
 pub pass_on-requires-in-None : goal.pass_on-requires-in-None
 pass_on-requires-in-None g c =
     let image = (g.P.Asked.seen c.args.parts.now).image in
     let l = c.in_ok-ahead.ensures in
     record {
-      passed = rw (l.kept, l.shelf)
-          (all_stale image c.args.number c.args.here.state.bus c.args.stock.now.shelf.entries);
+      passed = rw (l.kept, l.recent)
+          (all_stale image c.args.number c.args.here.state.bus c.args.stock.now.recent.entries);
       can = rw l.kept c.requires.can;
       stands = rw l.kept l.stands;
     }
@@ -148,17 +148,17 @@ returns-in_err-end-in-None g c =
     let after = c.pass_on-in-None.new in
     let new = progress after.stock after.telling after.meter after.parts in
     goes_wrong {new = new} c.from_residual-in_err-end-in-None.ensures.0 e.segments
-    (omega (arith, e.capacity, ap (λ (x : Shelved Placed). x.capacity) l.shelf)) (rw e.kept l.kept) e.rises
+    (omega (arith, e.capacity, ap (λ (x : LastUsed Placed). x.capacity) l.recent)) (rw e.kept l.kept) e.rises
 
 pub returns-in_ok-end-in-None : goal.returns-in_ok-end-in-None
 returns-in_ok-end-in-None g c =
     let l = c.in_ok-ahead.ensures in
     let a = rw c.in-None.is at l.answer in
-    let few = numbered_recorded c.args.number c.args.stock.now.shelf.entries in
+    let few = numbered_recorded c.args.number c.args.stock.now.recent.entries in
     let telling : Telling = record c.args.telling.now { look = c.look_ahead.new.look } in
     let between = progress c.look_ahead.new.stock telling c.args.meter.now c.look_ahead.new.parts in
     let after = c.pass_on-in-None.new in
     let new = progress after.stock after.telling after.meter after.parts in
     goes_from {between = between} {new = new} c.in_ok-end-in-None.ensures
-    (ap (λ (x : Shelved Placed). kept_of x.entries) l.shelf) (ap (λ (x : Shelved Placed). x.capacity) l.shelf) refl refl
-    l.kept (rw l.shelf (omega (arith, a.1, few)))
+    (ap (λ (x : LastUsed Placed). kept_of x.entries) l.recent) (ap (λ (x : LastUsed Placed). x.capacity) l.recent)
+    refl refl l.kept (rw l.recent (omega (arith, a.1, few)))

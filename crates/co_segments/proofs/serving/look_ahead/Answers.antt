@@ -14,7 +14,7 @@ pub serves-requires : goal.serves-requires
 serves-requires g c =
     let h = c.requires.told in
     let s = c.in-Some.segment.now in
-    let e = in_lookup c.in-Some._key c.args.stock.now.shelf.entries s c.in-Some.ensures.held in
+    let e = in_lookup c.in-Some._key c.args.stock.now.recent.entries s c.in-Some.ensures.held in
     record { meaning = h.meaning; named = h.named (e.0, s) e.1; state = h.state; known = h.known }
 
 pub returns-in_err-serves-in-Some-clause-segments : goal.returns-in_err-serves-in-Some-clause-segments
@@ -45,7 +45,7 @@ returns-in_ok-serves-in-Some-clause-stands g c =
     let image = (g.P.Asked.seen c.args.parts.now).image in
     let h = c.requires.told in
     let s = c.in-Some.segment.now in
-    let e = in_lookup c.in-Some._key c.args.stock.now.shelf.entries s c.in-Some.ensures.held in
+    let e = in_lookup c.in-Some._key c.args.stock.now.recent.entries s c.in-Some.ensures.held in
     let before : Stock = c.args.stock.now in
     let after : Stock = record before { given = c.serves.new.given } in
     stands_known image before after c.args.number c.args.look.now c.serves.new.look c.args.here.now c.requires refl

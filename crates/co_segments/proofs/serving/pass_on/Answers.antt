@@ -1,5 +1,5 @@
 use Rattle.std.proofs.Common.{ap, refl, arith}
-use Rattle.kept_shelf.specs.Shelves.{Shelved}
+use Rattle.kept_values.specs.LastUsed.{LastUsed}
 use Rattle.co_segments.specs.declared.stock.Stock.{Stock}
 use Rattle.co_segments.specs.Advances.{progress}
 use Rattle.co_segments.specs.Placed.{Placed, kept_of}
@@ -11,7 +11,7 @@ pub returns-in_err-settle : goal.returns-in_err-settle
 returns-in_err-settle g c =
     let image = (g.P.Asked.seen c.args.parts.now).image in
     let before : Stock = c.args.stock.now in
-    let after : Stock = record before { shelf = c.settle.new.self } in
+    let after : Stock = record before { recent = c.settle.new.self } in
     let segments = segments_fewer before after c.settle.ensures.fewer refl
     (segments_from_told image before c.args.telling.now.look c.args.here.state c.requires.stands.told) in
     let new = progress after c.args.telling.now c.args.meter.now c.args.parts.now in
@@ -24,7 +24,7 @@ pub search-requires-clause-stands : goal.search-requires-clause-stands
 search-requires-clause-stands g c =
     let image = (g.P.Asked.seen c.args.parts.now).image in
     let before : Stock = c.args.stock.now in
-    let after : Stock = record before { shelf = c.settle.new.self } in
+    let after : Stock = record before { recent = c.settle.new.self } in
     stands_settled image before after c.args.number c.args.telling.now.look c.args.here c.requires.stands
     c.in_ok-settle.ensures.ok refl
 
@@ -39,9 +39,9 @@ returns-in_err-end g c =
 pub returns : goal.returns
 returns g c =
     let ok = c.in_ok-settle.ensures.ok in
-    let settled : Stock = record c.args.stock.now { shelf = c.settle.new.self } in
+    let settled : Stock = record c.args.stock.now { recent = c.settle.new.self } in
     let between = progress settled c.args.telling.now c.args.meter.now c.args.parts.now in
     let after = c.search.new in
     let new = progress after.stock after.telling after.meter after.parts in
-    goes_from {between = between} {new = new} c.in_ok-end.ensures (ap (λ (x : Shelved Placed). kept_of x.entries) ok)
-    (ap (λ (x : Shelved Placed). x.capacity) ok) refl refl refl (rw ok (omega arith))
+    goes_from {between = between} {new = new} c.in_ok-end.ensures (ap (λ (x : LastUsed Placed). kept_of x.entries) ok)
+    (ap (λ (x : LastUsed Placed). x.capacity) ok) refl refl refl (rw ok (omega arith))

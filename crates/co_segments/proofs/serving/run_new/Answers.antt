@@ -2,7 +2,7 @@ use Rattle.std.proofs.Common.{List, ℕ, ◌≡◌, ◌+◌, refl, sym, ap, subs
 use Rattle.can_bus.specs.Bus.{Bus}
 use Rattle.can_bus.specs.declared.line.Line.{Line}
 use Rattle.trace_spans.specs.Reads.{Recorded}
-use Rattle.kept_shelf.specs.Shelves.{Shelved}
+use Rattle.kept_values.specs.LastUsed.{LastUsed}
 use Rattle.co_segments.specs.declared.stock.Stock.{Stock}
 use Rattle.co_segments.specs.Placed.{IsEndNumber, Numbered, Placed, placed_of}
 use Rattle.co_segments.proofs.PlacedLemmas.{new_added, reached_bus}
@@ -46,7 +46,7 @@ returns-clause-stands g c =
     let image = (g.P.Asked.seen c.args.parts.now).image in
     let old : Stock = c.args.stock.now in
     let new : Stock = record old {
-      shelf = c.add-2.new.self;
+      recent = c.add-2.new.self;
       given = record { buses = c.reach.new.given; contents = c.run.new.given };
     } in
     let h = c.requires.stands.told in
@@ -60,18 +60,18 @@ returns-clause-stands g c =
     c.in_ok-copy.copy lines c.in_ok-copy.ensures in
     let first = rw placed at c.in_ok-add-2.ensures.ok in
     let bus : end.bus ≡ ran.end = reached_bus _ _ _ ran.end end c.in_ok-end.ensures.reached in
-    let reached : IsEndNumber old.shelf.entries old.given.buses c.reach.new.given end.bus end =
-    subst (λ (b : Bus). IsEndNumber old.shelf.entries old.given.buses c.reach.new.given b end) (sym bus)
+    let reached : IsEndNumber old.recent.entries old.given.buses c.reach.new.given end.bus end =
+    subst (λ (b : Bus). IsEndNumber old.recent.entries old.given.buses c.reach.new.given b end) (sym bus)
     c.in_ok-end.ensures.reached in
     let kept = (placed_of number start ran.reads.items ran.told end).kept in
     let sound = sound_from_run image number start.bus kept refl refl
     (rw c.bus.ensures at c.in_ok-ran.ensures.recorded) (rw bus (rw c.bus.ensures at c.in_ok-ran.ensures.gives)) in
     record {
-      turn = ap (λ (x : Shelved Placed). x.turn) first ∙ ap (λ n. n + 1) c.requires.stands.turn;
+      turn = ap (λ (x : LastUsed Placed). x.turn) first ∙ ap (λ n. n + 1) c.requires.stands.turn;
       told = told_reached image old new c.args.telling.now.look c.run.new.now start end kept ran.reads.items h sound
           refl refl (c.in_ok-ran.ensures.known h.meaning.contents h.known) first reached;
-      new = λ k. rw c.in_ok-add-2.ensures.ok (new_added old.shelf.capacity old.shelf.given c.new-segment.result
-          old.shelf.entries (number + 1) end.bus
+      new = λ k. rw c.in_ok-add-2.ensures.ok (new_added old.recent.capacity old.recent.given c.new-segment.result
+          old.recent.entries (number + 1) end.bus
           (λ n. omega (arith, sym (ap (λ (p : Placed). p.kept.number) c.new-segment.ensures) ∙ n))
           (rw bus (c.in_ok-end.ensures.new k)));
     }

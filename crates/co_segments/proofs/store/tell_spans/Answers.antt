@@ -2,7 +2,7 @@ use Rattle.std.proofs.Common.{arith, refl, sym, ap, ◌∙◌, ◌<◌, ◌≡�
 use Rattle.std.proofs.lemmas.Bool.{false≢true}
 use Rattle.std.proofs.lemmas.List.{append-nil}
 use Rattle.image_parts.proofs.LoopLemmas.{turned_told}
-use Rattle.bus_laws.specs.Spans.{span}
+use Rattle.can_bus.specs.Spans.{span}
 use Rattle.can_bus.specs.Bus.{blank_bus}
 use Rattle.trace_spans.proofs.SpanLemmas.{span_ready}
 use Rattle.co_segments.specs.declared.stock.Stock.{Stock}
@@ -17,14 +17,14 @@ use Rattle.co_segments.proofs.store.tell_spans.Goals as goal
 pub returns-in_err-begin-clause-segments : goal.returns-in_err-begin-clause-segments
 returns-in_err-begin-clause-segments g c =
     let before : Stock = c.args.stock.now in
-    let after : Stock = record before { shelf = c.begin.new.self } in
+    let after : Stock = record before { recent = c.begin.new.self } in
     segments_fewer before after c.begin.ensures.fewer refl c.requires.segments
 
 pub returns-in_err-state-clause-segments : goal.returns-in_err-state-clause-segments
 returns-in_err-state-clause-segments g c =
     let before : Stock = c.args.stock.now in
     let after : Stock = record before {
-      shelf = c.begin.new.self;
+      recent = c.begin.new.self;
       given = record before.given { buses = c.give.new.given };
     } in
     segments_later before after c.in_ok-begin.ensures.ok.0 (omega (arith, c.in_err-state.ensures.err), omega arith)
@@ -36,10 +36,10 @@ loop-number-init g c =
     let begun = c.in_ok-begin.ensures in
     let before : Stock = c.args.stock.now in
     let after : Stock = record before {
-      shelf = c.begin.new.self;
+      recent = c.begin.new.self;
       given = record before.given { buses = c.give.new.given };
     } in
-    let entries : c.begin.new.self.entries ≡ before.shelf.entries = begun.ok.0 in
+    let entries : c.begin.new.self.entries ≡ before.recent.entries = begun.ok.0 in
     let given = c.in_ok-state.ensures in
     let bus : c.in_ok-state.state.bus ≡ blank_bus = ap (λ (n : Numbered). n.bus) given.is ∙ c.new-bus.ensures in
     let telling = c.new-telling.ensures in
@@ -88,7 +88,7 @@ loop-number-preserved g c =
     let number = c.loop-number.number in
     let here = c.loop-number.here.state.bus in
     let after = c.in_ok-end.end.state.bus in
-    let capacity = c.args.stock.now.shelf.capacity in
+    let capacity = c.args.stock.now.recent.capacity in
     let begun = held_in c.args.stock.now in
     let before = held_in c.loop-number.stock in
     let later = held_in c.advance.new.stock in

@@ -1,6 +1,6 @@
 use Rattle.std.proofs.Common.{◌≡◌, ◌≤◌, ◌+◌, ◌-◌, ◌++◌, ℕ}
 use Rattle.image_parts.specs.Asking.{outcome, turns}
-use Rattle.bus_laws.specs.Spans.{span}
+use Rattle.can_bus.specs.Spans.{span}
 use Rattle.kept_values.specs.Work.{Rises}
 use Rattle.trace_spans.specs.Spans.{IsReady, lines_of_spans}
 use Rattle.co_segments.specs.Segments.{HasRun, Traced, recorded_from}
@@ -17,13 +17,13 @@ invariant-loop-number g l =
     record {
       lines : told ++ (outcome (turns span (l.count - l.number) l.number bus) image).1 ≡ lines_of_spans image l.count;
       traced : (ran : ℕ) × ((read : ℕ) × (
-          Traced image l.fn.stock.shelf.capacity held l.number bus (held_in l.stock) told ran read
+          Traced image l.fn.stock.recent.capacity held l.number bus (held_in l.stock) told ran read
           × HasRun ran l.fn.meter l.meter
           × (g.P.Asked.asks l.parts + recorded_from l.number (held_in l.stock)
           ≤ g.P.Asked.asks l.fn.parts + recorded_from 0 held + read)));
       ready : IsReady l.number bus;
       stands : StandsAt image l.number l.stock l.telling.look l.here;
-      capacity : l.stock.shelf.capacity ≡ l.fn.stock.shelf.capacity;
+      capacity : l.stock.recent.capacity ≡ l.fn.stock.recent.capacity;
       kept : (g.P.Asked.seen l.parts).image ≡ image;
       rises : Rises l.fn.meter l.meter;
     }

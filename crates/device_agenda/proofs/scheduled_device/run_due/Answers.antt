@@ -1,6 +1,6 @@
 use Rattle.std.proofs.Common.{sym, ◌∙◌}
-use Rattle.device_laws.proofs.RestLemmas.{ran_rests}
-use Rattle.device_laws.proofs.SelfLemmas.{instant_stays}
+use Rattle.device_agenda.proofs.RestLemmas.{ran_rests}
+use Rattle.device_agenda.proofs.SelfLemmas.{instant_stays}
 use Rattle.device_agenda.proofs.scheduled_device.run_due.Goals as goal
 
 pub returns-clause-rests : goal.returns-clause-rests

@@ -1,7 +1,7 @@
 use Rattle.std.proofs.Common.{◌≡◌, length, ap, arith}
 use Rattle.std.proofs.lemmas.Grind.{common_steps}
 use Rattle.ini_text.specs.Reading.{State}
-use Rattle.plain_text.proofs.LineLemmas.{lines_of_empty}
+use Rattle.base.proofs.LineLemmas.{lines_of_empty}
 use Rattle.ini_text.proofs.ini.read_lines.Goals as goal
 
 pub returns : goal.returns

@@ -3,7 +3,7 @@ use Rattle.image_parts.specs.Asking.{Seen, reads}
 use Rattle.image_parts.proofs.QuestionLemmas.{reads_agree}
 use Rattle.image_parts.specs.Contents.{Content}
 use Rattle.image_parts.specs.declared.part.Part.{Part}
-use Rattle.bus_laws.specs.Spans.{span}
+use Rattle.can_bus.specs.Spans.{span}
 use Rattle.trace_spans.proofs.running.run.Goals as goal
 
 pub recorded-requires : goal.recorded-requires

@@ -1,6 +1,6 @@
 use Rattle.std.proofs.Common.{◌≡◌, length, take}
 use Rattle.can_bus.specs.Lines.{lines_text}
-use Rattle.plain_text.specs.Lines.{line_count}
+use Rattle.base.specs.Lines.{line_count}
 use Rattle.trace_spans.specs.Passages.{lines_of_passages}
 use Rattle.trace_spans.proofs.text_size.size_of_text.Given as goal
 

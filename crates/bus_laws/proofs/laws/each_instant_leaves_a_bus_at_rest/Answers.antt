@@ -1,5 +1,0 @@
-use Rattle.can_bus.proofs.DueRunLemmas.{at_rest_after}
-use Rattle.bus_laws.proofs.laws.each_instant_leaves_a_bus_at_rest.Goals as goal
-
-pub returns-clause-rest : goal.returns-clause-rest
-returns-clause-rest c = at_rest_after

@@ -1,5 +1,0 @@
-use Rattle.can_bus.proofs.DueRunLemmas.{due_run_is_run}
-use Rattle.bus_laws.proofs.laws.the_run_over_due_moments_is_the_run.Goals as goal
-
-pub returns : goal.returns
-returns c = due_run_is_run

@@ -1,6 +1,0 @@
-use Rattle.std.proofs.Common.{◌≡◌, ◌+◌, suc, arith}
-use Rattle.bus_laws.proofs.SpanLemmas.{spans_are_the_run}
-use Rattle.bus_laws.proofs.run_laws.spans_are_the_run.Goals as goal
-
-pub returns : goal.returns
-returns c image count s = let more : count + 1 ≡ suc count = omega arith in rw more (spans_are_the_run image count s)

@@ -1,4 +1,0 @@
-pub mod Spans
-pub mod Starts
-pub mod Boots
-pub mod Reads

@@ -1,5 +1,0 @@
-use Rattle.device_laws.proofs.StateLemmas.{sending_is_silent}
-use Rattle.device_laws.proofs.laws.a_stopped_device_says_nothing_by_sdo_or_emergency.Goals as goal
-
-pub returns-clause-sent : goal.returns-clause-sent
-returns-clause-sent c = sending_is_silent

@@ -1,4 +1,0 @@
-pub mod Ahead
-pub mod States
-pub mod Rest
-pub mod Deaf

@@ -1,4 +1,0 @@
-//! Laws of devices.
-#![tactic(auto)]
-
-pub mod laws;

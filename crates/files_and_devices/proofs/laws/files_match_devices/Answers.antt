@@ -1,7 +1,0 @@
-use Rattle.std.proofs.Common.{◌+◌}
-use Rattle.files_and_devices.proofs.FileLemmas.{files_match}
-use Rattle.files_and_devices.proofs.laws.files_match_devices.Goals as goal
-
-pub returns : goal.returns
-returns c = λ image is t node d configured up place bytes configures.
-    files_match image is (t + 1) node d configured up place bytes configures

@@ -1,5 +1,0 @@
-use Rattle.files_and_devices.proofs.RequestLaws.{started}
-use Rattle.files_and_devices.proofs.sdo_downloads.a_download_starts_with_its_first_request.Goals as goal
-
-pub returns : goal.returns
-returns c = started

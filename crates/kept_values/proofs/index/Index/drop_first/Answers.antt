@@ -1,0 +1,11 @@
+use Rattle.std.proofs.Common.{arith, drop, refl}
+use Rattle.kept_values.proofs.IndexLemmas.{changed_none, changed_one}
+use Rattle.kept_values.proofs.index.Index.drop_first.Goals as goal
+
+pub returns-then-place-len : goal.returns-then-place-len
+returns-then-place-len c =
+    rw (← c.self.view_is) (changed_one (λ k. k.items) c.self.inside.keys.items c.args.number (drop 1) c.index_mut.result.now c.drop_first.new.keys (omega arith) c.index_mut.ensures.value c.drop_first.ensures)
+
+pub returns-else-place-len : goal.returns-else-place-len
+returns-else-place-len c =
+    rw (← c.self.view_is) (changed_none (λ k. k.items) c.self.inside.keys.items c.args.number (drop 1) (omega arith) refl)

@@ -1,0 +1,10 @@
+use Rattle.std.proofs.Common.{length, ap, sym, ◌∙◌}
+use Rattle.kept_values.proofs.RowLemmas.{later_numbers}
+use Rattle.kept_values.proofs.recent.Recent.count.Goals as goal
+
+pub returns : goal.returns
+returns g c =
+    let in' = c.self.inside in
+    let settled = rw (← c.self.view_is) at c.requires.settled in
+    let later = rw (← c.self.view_is) at c.requires.later in
+    rw (← c.self.view_is) (c.count.ensures ∙ ap length (sym (later_numbers g.V.Numbered.number_of in'.first in'.used in'.row.items in'.rest c.self.invariant.numbers c.self.invariant.within settled c.args.number later)))

@@ -1,0 +1,52 @@
+-- What the manager sends periodically, at each moment of a run.
+use Rattle.std.proofs.Common.{◌↔◌, ℕ, ◌+◌, ◌*◌, arith, refl}
+use Rattle.std.specs.Prelude.{Contains}
+use Rattle.image_parts.specs.Asking.{outcome}
+use Rattle.image_parts.specs.Contents.{Image, roster_of}
+use Rattle.image_parts.specs.declared.part.Part.TheVariants.{Roster}
+use Rattle.image_parts.specs.declared.roster.Roster.{Roster as Network}
+use Rattle.nmt_boot.proofs.BeatLemmas.{command_on_time, due_at_multiples, frame_on_time, on_time_first, timers_on_time}
+use Rattle.nmt_boot.specs.Beats.{IsMultiple, IsOnTime, due_messages}
+use Rattle.nmt_boot.specs.Periodic.{messages, period_of}
+use Rattle.nmt_boot.specs.declared.periodic_message.PeriodicMessage.{PeriodicMessage}
+use Rattle.nmt_boot.specs.declared.periodic_message.PeriodicMessage.TheVariants.{Heartbeat, Sync}
+use Rattle.can_bus.specs.Bus.{Bus, ended_slot, instant, power_on}
+use Rattle.can_bus.proofs.PowerLemmas.{outcome_power_on_of}
+use Rattle.can_bus.specs.Spans.{bus_at}
+use Rattle.can_bus.proofs.SpanLemmas.{at_each_moment}
+use Rattle.network_laws.proofs.ThroughLemmas.{hears_keeps, manager_through}
+
+on_time_on : (image : Image) → IsOnTime (roster_of (image Roster)) 0 (outcome power_on image).manager
+unfolding power_on
+on_time_on image = rw (outcome_power_on_of (roster_of (image Roster)) image) (on_time_first (roster_of (image Roster)))
+
+on_time_next : (image : Image) (network : Network) (t : ℕ) (s : Bus) → IsOnTime network t s.manager
+    → IsOnTime network (t + 1) (outcome (instant t s) image).0.manager
+on_time_next image network t s h =
+    manager_through image t s (IsOnTime network t) (IsOnTime network t) (IsOnTime network (t + 1))
+    (command_on_time network t)
+    (hears_keeps image t (IsOnTime network t) (λ slot m k. frame_on_time network image t slot.frame m k)
+    (ended_slot t s.wire))
+    (timers_on_time network t)
+    (λ m frames k. k)
+    h
+
+module _ (image : Image) (t : ℕ) where
+  on_time : IsOnTime (roster_of (image Roster)) t (bus_at image t).manager
+  on_time = at_each_moment image (λ u s. IsOnTime (roster_of (image Roster)) u s.manager) (on_time_on image)
+      (on_time_next image (roster_of (image Roster))) t
+
+  pub due_at_multiples_of_run : (message : PeriodicMessage)
+      → Contains (messages (roster_of (image Roster)).sync_counter) message
+      → Contains (due_messages t (bus_at image t).manager.periodic) message
+      ↔ IsMultiple t (period_of (roster_of (image Roster)) message)
+  due_at_multiples_of_run message one =
+      due_at_multiples (roster_of (image Roster)) t (bus_at image t).manager message on_time one
+
+  pub heartbeat_at_multiples : Contains (due_messages t (bus_at image t).manager.periodic) Heartbeat
+      ↔ IsMultiple t (1000 * (roster_of (image Roster)).heartbeat_ms)
+  heartbeat_at_multiples = due_at_multiples_of_run Heartbeat (0, omega arith, refl)
+
+  pub sync_at_multiples : Contains (due_messages t (bus_at image t).manager.periodic)
+      (Sync (roster_of (image Roster)).sync_counter) ↔ IsMultiple t (roster_of (image Roster)).sync_us
+  sync_at_multiples = due_at_multiples_of_run (Sync (roster_of (image Roster)).sync_counter) (1, omega arith, refl)

@@ -1,0 +1,14 @@
+pub mod States
+pub mod Starts
+pub mod Boots
+pub mod Reads
+pub mod Marks
+pub mod Files
+pub mod Exchanges
+pub mod Downloads
+pub mod Writes
+pub mod Written
+pub mod Leaves
+pub mod Own
+pub mod Requests
+pub mod Steps

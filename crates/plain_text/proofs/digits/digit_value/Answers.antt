@@ -1,6 +1,0 @@
-use Rattle.std.proofs.Common.{arith}
-use Rattle.plain_text.proofs.DigitLemmas.{digit_value_by_table}
-use Rattle.plain_text.proofs.digits.digit_value.Goals as goal
-
-pub returns : goal.returns
-returns c = digit_value_by_table c.args.byte (omega arith)

@@ -1,5 +1,0 @@
-use Rattle.plain_text.proofs.Hexes.{hex_text-lines}
-use Rattle.plain_text.proofs.reply_laws.rows_are_counted.Goals as goal
-
-pub returns : goal.returns
-returns c = hex_text-lines
