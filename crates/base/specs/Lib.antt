@@ -1,6 +1,7 @@
 pub mod Blanks
 pub mod Bytes
 pub mod Digits
+pub mod Fingerprint
 pub mod Gives
 pub mod Hex
 pub mod Lines

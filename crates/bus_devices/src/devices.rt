@@ -126,8 +126,8 @@ impl Devices {
         differ_at(&self.devices, &other.devices, place)
     }
 
-    /// What tells them from others: the first place at which `differ_at` does, if there is one. Looks at each of
-    /// them up to that place; where none is told so, compares them by value.
+    /// What tells them from others: a place at which `differ_at` does, if there is one. Looks at each of them up to
+    /// that place, at the fingerprints of their values first; where none is told so, compares them by value.
     pub fn tell_apart(&self, other: &Devices) -> Apart
         ensures { TellsApart result self.now other.now }
     {

@@ -52,9 +52,32 @@ pub(crate) fn differ_at(
     }
 }
 
+/// Whether the values of a place's devices are told apart at once.
+fn values_differ_at(devices: &[ScheduledDevice], others: &[ScheduledDevice], place: usize) -> bool
+    ensures { IsTrue result → slice_get devices.now place ≡ slice_get others.now place → ⊥ }
+{
+    match (devices.get(place), others.get(place)) {
+        (Some(device), Some(other)) => !device.values().may_be(other.values()),
+        _ => false,
+    }
+}
+
+/// The first place at which values are told apart at once, if there is one. Takes constant time for each device up
+/// to that place.
+fn values_apart(devices: &[ScheduledDevice], others: &[ScheduledDevice]) -> Option<usize>
+    ensures { IfSome result (λ place. slice_get devices.now place ≡ slice_get others.now place → ⊥) }
+{
+    for place in 0..devices.len() {
+        if values_differ_at(devices, others, place) {
+            return Some(place);
+        }
+    }
+    None
+}
+
 /// The first place at which a quick look tells the devices of two lists apart, if there is one. Looks at each of
 /// them up to that place.
-fn place_apart(devices: &[ScheduledDevice], others: &[ScheduledDevice]) -> Option<usize>
+fn devices_apart(devices: &[ScheduledDevice], others: &[ScheduledDevice]) -> Option<usize>
     ensures { IfSome result (λ place. slice_get devices.now place ≡ slice_get others.now place → ⊥) }
 {
     for place in 0..devices.len() {
@@ -63,6 +86,16 @@ fn place_apart(devices: &[ScheduledDevice], others: &[ScheduledDevice]) -> Optio
         }
     }
     None
+}
+
+/// A place at which the devices of two lists are told apart ahead of a comparison by value, if there is one.
+fn place_apart(devices: &[ScheduledDevice], others: &[ScheduledDevice]) -> Option<usize>
+    ensures { IfSome result (λ place. slice_get devices.now place ≡ slice_get others.now place → ⊥) }
+{
+    match values_apart(devices, others) {
+        Some(place) => Some(place),
+        None => devices_apart(devices, others),
+    }
 }
 
 /// Whether the devices of two lists of one length are the same. Compares one after another by value.
@@ -78,8 +111,8 @@ fn same_each(devices: &[ScheduledDevice], others: &[ScheduledDevice]) -> bool
     true
 }
 
-/// What tells the devices of two lists apart. Looks at each of them quickly before it compares one by value; lists
-/// of other lengths are told apart by these.
+/// What tells the devices of two lists apart. Looks at the fingerprint of the values of each first, then at each of
+/// them quickly, before it compares one by value; lists of other lengths are told apart by these.
 pub(crate) fn tell_apart(devices: &[ScheduledDevice], others: &[ScheduledDevice]) -> Apart
     ensures { TellsApart result devices.now others.now }
 {

@@ -318,8 +318,8 @@ impl BusState {
         self.devices.differ_at(&other.devices, place)
     }
 
-    /// What tells it from another bus: of one that is the same but for its devices the first place at which
-    /// `differs_at` does, if there is one. Takes time as `same` does, and no memory.
+    /// What tells it from another bus: of one that is the same but for its devices a place at which `differs_at`
+    /// does, if there is one. Takes time as `same` does, and no memory.
     pub fn tell_apart(&self, other: &BusState) -> Apart
         ensures { TellsApart result self.now other.now }
     {

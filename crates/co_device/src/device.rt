@@ -141,25 +141,31 @@ impl Device {
             && self.heartbeat == other.heartbeat
     }
 
-    /// Whether the other device may be the same: a quick look ahead of `same`, which passes over lists, transfer
-    /// and waiting frames, and most of the values.
-    pub fn may_be(&self, other: &Device) -> bool
-        ensures { self.now ≡ other.now → IsTrue result }
-    {
-        self.is_like(other) && self.values.may_be(&other.values)
-    }
-
-    /// Whether the other device is the same.
-    pub fn same(&self, other: &Device) -> bool
-        ensures { IsTrue result ↔ (self.now ≡ other.now) }
+    /// Whether the other device is the same, but for values.
+    fn is_same_but_values(&self, other: &Device) -> bool
+        ensures { IsTrue result ↔ (record self.now { values = other.now.values } ≡ other.now) }
     {
         self.is_like(other)
             && transfer::same(&self.transfer, &other.transfer)
             && same_consumers(&self.consumers, &other.consumers)
             && same_rpdos(&self.rpdos, &other.rpdos)
             && same_tpdos(&self.tpdos, &other.tpdos)
-            && self.values.same(&other.values)
             && self.waiting.same(&other.waiting)
+    }
+
+    /// Whether the other device may be the same: a quick look ahead of `same`, which leaves the values to their
+    /// fingerprints. Hardly ever said of others.
+    pub fn may_be(&self, other: &Device) -> bool
+        ensures { self.now ≡ other.now → IsTrue result }
+    {
+        self.values.may_be(&other.values) && self.is_same_but_values(other)
+    }
+
+    /// Whether the other device is the same.
+    pub fn same(&self, other: &Device) -> bool
+        ensures { IsTrue result ↔ (self.now ≡ other.now) }
+    {
+        self.is_same_but_values(other) && self.values.same(&other.values)
     }
 
     /// Whether a call before found no memory.

@@ -1,10 +1,10 @@
 -- Sets of groups of identifiers.
-use Rattle.std.proofs.Common.{◌≡◌, ℕ, zero, suc, ◌<◌, ◌==◌, ◌||◌, Bool, true, false, refl, sym, ap, ◌∙◌}
-use Rattle.std.proofs.Common.{arith, bit_or}
-use Rattle.std.specs.Prelude.{max}
+use Rattle.std.proofs.Common.{◌≡◌, ℕ, zero, suc, ◌*◌, ◌<◌, ◌%◌, ◌==◌, ◌||◌, Bool, true, false, refl, sym, ap, ◌∙◌}
+use Rattle.std.proofs.Common.{arith, bit_or, w64}
+use Rattle.std.specs.Prelude.{◌^◌, max}
 use Rattle.std.specs.Int.{bit_at}
 use Rattle.std.proofs.lemmas.Bool.{eqb-false, eqb-true}
-use Rattle.std.proofs.lemmas.Nat.Bits.{bit_at-lt, bit_at_or}
+use Rattle.std.proofs.lemmas.Nat.Bits.{bit_at-lt, bit_at_or, bit_at_set_other, bit_at_set_same}
 
 pub neither : (a b : Bool) → a || b ≡ false → (a ≡ false) × (b ≡ false)
 neither true b h = absurd cc
@@ -24,6 +24,16 @@ either_bit (suc (suc n)) y h k = absurd (omega arith)
 pub both_sets : (a b i : ℕ) → (bit_at (bit_or a b) i == 1) ≡ (bit_at a i == 1) || (bit_at b i == 1)
 both_sets a b i = ap (λ n. n == 1) (bit_at_or a b i) ∙ either_bit (bit_at a i) (bit_at b i) (bit_at-lt a i)
     (bit_at-lt b i)
+
+pub one_more : (bits k : ℕ) → k < 64 → (i : ℕ)
+    → (bit_at (bit_or bits (1 * 2 ^ k % 18446744073709551616)) i == 1) ≡ (i == k) || (bit_at bits i == 1)
+one_more bits k within i = by (i == k) refl
+  where
+    by : (t : Bool) → (i == k) ≡ t → (bit_at (bit_or bits (1 * 2 ^ k % 18446744073709551616)) i == 1) ≡ t
+        || (bit_at bits i == 1)
+    by true e = ap (λ n. bit_at (bit_or bits (1 * 2 ^ k % 18446744073709551616)) n == 1) (eqb-true i k e)
+        ∙ ap (λ n. n == 1) (bit_at_set_same w64 bits k within)
+    by false e = ap (λ n. n == 1) (bit_at_set_other w64 bits k within i (eqb-false i k e))
 
 -- ---- sets that grow by what identifiers have alike
 

@@ -9,8 +9,7 @@ use Rattle.std.proofs.lemmas.Nat.Bits.{bit_at-zero, bit_at_ones}
 use Rattle.co_device.specs.Device.{Device}
 use Rattle.device_agenda.specs.LowBytes.{AreDeafBeyond, IsDeafBeyond, has_bit, has_low_byte_of}
 use Rattle.device_agenda.specs.declared.low_bytes.LowBytes.{LowBytes}
-use Rattle.dict_values.proofs.MarkLemmas.{one_more}
-use Rattle.device_agenda.proofs.GroupLemmas.{both_sets, neither}
+use Rattle.device_agenda.proofs.GroupLemmas.{both_sets, neither, one_more}
 use Rattle.device_pdos.proofs.LookLemmas.{all_both}
 
 -- ---- words

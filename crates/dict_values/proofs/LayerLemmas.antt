@@ -49,7 +49,7 @@ written_above lower upper k bytes = same_map places_total places_exact _ _ (λ q
     ∙ sym (get-insert places_total (both_layers lower upper) k bytes q
     ∙ ap (cond (eq_by_cmp place_cmp q k) (Some bytes)) (layered_at lower upper q)))
 
-bare : (lower upper : Values) (q : ℕ × ℕ) → upper ≡ empty → get (both_layers lower upper) q ≡ get lower q
+pub bare : (lower upper : Values) (q : ℕ × ℕ) → upper ≡ empty → get (both_layers lower upper) q ≡ get lower q
 bare lower upper q nothing =
     layered_at lower upper q ∙ ap (λ (m : Values). option_or (get m q) (get lower q)) nothing
     ∙ ap (λ o. option_or o (get lower q)) (get-empty place_cmp q)

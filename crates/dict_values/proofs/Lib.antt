@@ -1,6 +1,6 @@
 pub mod EachPlace
+pub mod FingerprintLemmas
 pub mod LayerLemmas
-pub mod MarkLemmas
 pub mod PlaceLemmas
 pub mod RestoredLemmas
 pub mod WrittenLemmas

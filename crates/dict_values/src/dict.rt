@@ -9,16 +9,13 @@ ghost use Rattle.dict_values.specs.Restored.{is_kept, with_restored};
 ghost use Rattle.dict_values.specs.Values.{bytes_at, number_at};
 ghost use Rattle.co_values.specs.Values.{longest_value};
 
+use crate::fingerprint::{changed, weight, weight_above, weight_of};
 use crate::held::{Held, IN_PLACE};
 use crate::layer::Layer;
-use crate::places::{agree_on, has_each, may_agree_above, write_each};
+use crate::places::{agree_on, has_each, write_each};
 use co_values::{number_8, number_16, number_32, number_64};
 use std::alloc::{AllocError, Global};
 use std::marker::Model;
-
-/// The first index behind the communication profile (CiA 301), whose objects rarely change once a device is
-/// configured.
-const APPLICATION: u16 = 0x2000;
 
 /// The values that the entries of a device hold, by index and sub.
 ///
@@ -31,11 +28,15 @@ pub struct Dict {
     base: Layer,
     /// What was written since then, which hides what the base has at the same places.
     own: Layer,
+    /// What tells its values from others at once.
+    fingerprint: u64,
 }
 
 impl Model for Dict {
     ghost use Rattle.std.specs.Coded.{coded_ℕ, coded_list, coded×};
     ghost use Rattle.std.specs.FinMap as map;
+    ghost use Rattle.std.specs.Prelude.{◌≡◌};
+    ghost use Rattle.dict_values.specs.Fingerprint.{fingerprint_of};
     ghost use Rattle.dict_values.specs.Layers.{both_layers};
     ghost use Rattle.dict_values.specs.Values.{Values};
 
@@ -44,6 +45,8 @@ impl Model for Dict {
     ghost coded = { map.code (coded× coded_ℕ coded_ℕ) (coded_list coded_ℕ) };
 
     ghost view = { λ dict. both_layers dict.base dict.own };
+
+    ghost invariant = { λ dict. dict.fingerprint ≡ fingerprint_of (both_layers dict.base dict.own) };
 }
 
 impl Dict {
@@ -55,6 +58,7 @@ impl Dict {
             alloc,
             base: Layer::new(),
             own: Layer::new(),
+            fingerprint: 0,
         }
     }
 
@@ -80,10 +84,16 @@ impl Dict {
         ensures ok { OnOk result (self.new ≡ map.insert self.old place value) }
         ensures err { OnErr result (self.new ≡ self.old) }
     {
+        let added = weight(place, value.as_slice());
         if self.own.is_empty() && !self.base.is_shared() {
-            self.base.insert(self.alloc, place, value)
+            let before = self.base.insert(self.alloc, place, value)?;
+            self.fingerprint = changed(self.fingerprint, weight_of(place, before), added);
+            Ok(())
         } else {
-            self.own.insert(self.alloc, place, value)
+            let before = self.own.insert(self.alloc, place, value)?;
+            let taken = weight_above(place, before, &self.base);
+            self.fingerprint = changed(self.fingerprint, taken, added);
+            Ok(())
         }
     }
 
@@ -158,6 +168,7 @@ impl Dict {
             alloc: self.alloc,
             base: self.base.copy()?,
             own: self.own.copy()?,
+            fingerprint: self.fingerprint,
         })
     }
 
@@ -193,16 +204,12 @@ impl Dict {
         self.agrees_on_both(other, &self.base, &other.base)
     }
 
-    /// Whether the other dictionary may be the same: a quick look ahead of `same`, at what lies behind the
-    /// communication profile and was written in both since copies were made. Takes time by the number of
-    /// these entries, up to the first that differs; one that is the same in both is only passed over.
+    /// Whether the other dictionary may be the same: a quick look ahead of `same`, at their fingerprints. Hardly ever
+    /// said of others, and takes constant time.
     pub fn may_be(&self, other: &Dict) -> bool
         ensures { self.now ≡ other.now → IsTrue result }
     {
-        match (self.own.table(), other.own.table()) {
-            (Some(own), Some(others)) => may_agree_above(self, other, APPLICATION, own, others),
-            _ => true,
-        }
+        self.fingerprint == other.fingerprint
     }
 
     /// Whether the other dictionary has the same entries with the same values. Takes time by the number of
@@ -210,6 +217,9 @@ impl Dict {
     pub fn same(&self, other: &Dict) -> bool
         ensures { IsTrue result ↔ (self.now ≡ other.now) }
     {
+        if !self.may_be(other) {
+            return false;
+        }
         if self.own.is_like(&other.own) && self.base.is_like(&other.base) {
             return true;
         }
@@ -305,9 +315,15 @@ impl Dict {
         ensures ok { OnOk result (self.new ≡ with_restored first last from.now self.old) }
         ensures err { OnErr result (self.new ≡ self.old) }
     {
-        let Dict { base, own, .. } = self.restored(from, first, last)?;
+        let Dict {
+            base,
+            own,
+            fingerprint,
+            ..
+        } = self.restored(from, first, last)?;
         self.base = base;
         self.own = own;
+        self.fingerprint = fingerprint;
         Ok(())
     }
 }

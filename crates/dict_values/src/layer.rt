@@ -31,9 +31,15 @@ impl Model for Layer {
     ghost view = { λ layer. values_behind layer.table };
 }
 
-/// Sets the value at a place of a table behind a handle. Copies of the handle keep theirs.
-fn insert_in(table: &mut Rc<Table>, place: (u16, u8), value: Held) -> Result<(), AllocError>
+/// Sets the value at a place of a table behind a handle, and gives the one that it had. Copies of the handle keep
+/// theirs.
+fn insert_in(
+    table: &mut Rc<Table>,
+    place: (u16, u8),
+    value: Held,
+) -> Result<Option<Held>, AllocError>
     ensures ok { OnOk result (table.new.value ≡ map.insert table.old.value place value) }
+    ensures before { IfOk result (λ before. before ≡ map.get table.old.value place) }
     ensures err { OnErr result (table.new.value ≡ table.old.value) }
 {
     let table = Rc::make_mut(table)?;
@@ -121,15 +127,16 @@ impl Layer {
         }
     }
 
-    /// Sets the value at a place, and at that one alone. Where copies share the values, it takes a copy of
-    /// all of them first.
+    /// Sets the value at a place, and at that one alone. Gives the value that it had. Where copies share the values,
+    /// it takes a copy of all of them first.
     pub(crate) fn insert(
         &mut self,
         alloc: Global,
         place: (u16, u8),
         value: Held,
-    ) -> Result<(), AllocError>
+    ) -> Result<Option<Held>, AllocError>
         ensures ok { OnOk result (self.new ≡ map.insert self.old place value) }
+        ensures before { IfOk result (λ before. before ≡ map.get self.old place) }
         ensures err { OnErr result (self.new ≡ self.old) }
     {
         match &mut self.table {
@@ -137,7 +144,7 @@ impl Layer {
             None => {
                 let table = table_of(alloc, place, value)?;
                 self.table = Some(table);
-                Ok(())
+                Ok(None)
             }
         }
     }

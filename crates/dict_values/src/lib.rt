@@ -3,9 +3,9 @@
 
 mod dict;
 mod entries;
+mod fingerprint;
 mod held;
 mod layer;
-mod marks;
 mod places;
 mod table;
 

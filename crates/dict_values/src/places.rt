@@ -42,35 +42,6 @@ pub(crate) fn agree_on(a: &Dict, b: &Dict, places: &Table) -> bool
     true
 }
 
-/// Whether two dictionaries have the same at the place of the first entry, which isn't read where both entries
-/// are the same. Said of equal dictionaries always.
-fn may_agree_at(a: &Dict, b: &Dict, one: (&(u16, u8), &Held), other: (&(u16, u8), &Held)) -> bool
-    ensures { a.now ≡ b.now → IsTrue result }
-{
-    (one.0 == other.0 && one.1.same(other.1)) || agree_at(a, b, *one.0)
-}
-
-/// Whether two dictionaries may have the same where the index is `first` or above, by the entries of a table of
-/// each, one beside the other. Said of equal dictionaries always.
-pub(crate) fn may_agree_above(
-    a: &Dict,
-    b: &Dict,
-    first: u16,
-    places: &Table,
-    others: &Table,
-) -> bool
-    ensures { a.now ≡ b.now → IsTrue result }
-{
-    let ours = places.held.range((first, 0)..);
-    let theirs = others.held.range((first, 0)..);
-    for (one, other) in ours.zip(theirs) {
-        if !may_agree_at(a, b, one, other) {
-            return false;
-        }
-    }
-    true
-}
-
 /// Whether a place has a value, if its index isn't from `first` to `last`.
 fn has_at(dict: &Dict, first: u16, last: u16, place: (u16, u8)) -> bool
     ensures { IsTrue result → is_kept first last false place.0 ≡ true → IsSome (map.get dict.now place) }

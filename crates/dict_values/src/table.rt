@@ -1,28 +1,26 @@
 //! Values by place.
 
-ghost use Rattle.std.specs.Prelude.{◌≡◌, ◌≤◌, ◌↔◌, IsTrue, length, IfSome, OnOk, OnErr, option_copied};
+ghost use Rattle.std.specs.Prelude.{◌≡◌, ◌≤◌, ◌↔◌, IsTrue, length, IfOk, IfSome, OnOk, OnErr};
+ghost use Rattle.std.specs.Prelude.{option_copied};
 ghost use Rattle.std.specs.FinMap as map;
 ghost use Rattle.dict_values.specs.Places.{place_cmp};
 ghost use Rattle.co_values.specs.Values.{longest_value};
 
 use crate::entries::same_entries;
 use crate::held::Held;
-use crate::marks::Marks;
 use std::alloc::{AllocError, Global};
 use std::collections::BTreeMap;
 use std::marker::Model;
 
-/// The values at places, each place by index and sub, with marks by which most places without one are told.
+/// The values at places, each place by index and sub.
 #[derive(Drop)]
 pub(crate) struct Table {
     pub(crate) held: BTreeMap<(u16, u8), Held>,
-    marks: Marks,
 }
 
 impl Model for Table {
     ghost use Rattle.std.specs.Coded.{coded_ℕ, coded_list, coded×};
     ghost use Rattle.std.specs.FinMap as map;
-    ghost use Rattle.dict_values.specs.Marks.{AreMarked};
     ghost use Rattle.dict_values.specs.Values.{Values};
 
     ghost Value = { Values };
@@ -30,8 +28,6 @@ impl Model for Table {
     ghost coded = { map.code (coded× coded_ℕ coded_ℕ) (coded_list coded_ℕ) };
 
     ghost view = { λ table. map.from_entries table.held.entries };
-
-    ghost invariant = { λ table. AreMarked table.marks (map.from_entries table.held.entries) };
 }
 
 impl Table {
@@ -41,7 +37,6 @@ impl Table {
     {
         Table {
             held: BTreeMap::new(alloc),
-            marks: Marks::none(),
         }
     }
 
@@ -52,28 +47,29 @@ impl Table {
         self.held.is_empty()
     }
 
-    /// The value at a place, if it has one. Nothing is looked for where its mark isn't set.
+    /// The value at a place, if it has one.
     pub(crate) fn get(&self, place: (u16, u8)) -> Option<&[u8]>
         ensures value { option_copied result ≡ map.get self.now place }
         ensures short { IfSome result (λ bytes. length bytes.now ≤ longest_value) }
     {
-        if !self.marks.has(place) {
-            return None;
-        }
         match self.held.get(&place) {
             Some(value) => Some(value.as_slice()),
             None => None,
         }
     }
 
-    /// Sets the value at a place, and at that one alone.
-    pub(crate) fn insert(&mut self, place: (u16, u8), value: Held) -> Result<(), AllocError>
+    /// Sets the value at a place, and at that one alone. Gives the value that it had.
+    pub(crate) fn insert(
+        &mut self,
+        place: (u16, u8),
+        value: Held,
+    ) -> Result<Option<Held>, AllocError>
         ensures ok { OnOk result (self.new ≡ map.insert self.old place value) }
+        ensures before { IfOk result (λ before. before ≡ map.get self.old place) }
         ensures err { OnErr result (self.new ≡ self.old) }
     {
-        self.held.insert(place, value)?;
-        self.marks = self.marks.with(place);
-        Ok(())
+        let before = self.held.insert(place, value)?;
+        Ok(before)
     }
 
     /// Whether the other table has the same values.
@@ -90,7 +86,6 @@ impl Clone for Table {
     fn clone(&self) -> Result<Table, AllocError> {
         Ok(Table {
             held: self.held.clone()?,
-            marks: self.marks,
         })
     }
 }

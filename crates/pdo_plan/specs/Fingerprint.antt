@@ -1,7 +1,8 @@
 -- Numbers that tell plans apart: plans with other fingerprints are other plans. They are this program's own, and no
 -- contract of a public call shows one.
-use Rattle.std.specs.Prelude.{ℕ, ◌+◌, ◌*◌, ◌^◌, ◌%◌, List, length}
+use Rattle.std.specs.Prelude.{ℕ, List, length}
 use Rattle.std.specs.List.{fold}
+use Rattle.base.specs.Fingerprint.{mix}
 use Rattle.project_messages.specs.declared.message.Message.{Message}
 use Rattle.pdo_plan.specs.declared.clean.Clean.{Clean}
 use Rattle.pdo_plan.specs.declared.consumer.Consumer.{Consumer}
@@ -9,10 +10,6 @@ use Rattle.pdo_plan.specs.declared.outcome.Outcome.{Outcome}
 use Rattle.pdo_plan.specs.declared.outcome.Outcome.TheVariants.{Planned, Faulty}
 use Rattle.pdo_plan.specs.declared.planned_message.PlannedMessage.{PlannedMessage}
 use Rattle.pdo_stations.specs.declared.mapped.Mapped.{Mapped}
-
--- a fingerprint with one more number
-unfoldable pub mix : ℕ → ℕ → ℕ
-mix fingerprint number = ((fingerprint * 0x5851F42D4C957F2D) % 2 ^ 64 + number) % 2 ^ 64
 
 -- with a mapping entry, a consumer, a message
 abbrev pub with_mapped : ℕ → Mapped → ℕ

@@ -1,27 +1,17 @@
 //! Numbers that tell plans apart.
 ghost use Rattle.std.specs.Prelude.{◌≡◌, ℕ};
 ghost use Rattle.std.specs.List.{fold};
-ghost use Rattle.pdo_plan.specs.Fingerprint.{mix, with_mapped, with_message, with_consumer, with_clean};
-ghost use Rattle.pdo_plan.specs.Fingerprint.{with_outcome, with_planned, fingerprint_of};
+ghost use Rattle.base.specs.Fingerprint.{mix};
+ghost use Rattle.pdo_plan.specs.Fingerprint.{with_mapped, with_message, with_consumer, with_clean, with_outcome};
+ghost use Rattle.pdo_plan.specs.Fingerprint.{with_planned, fingerprint_of};
 
 use crate::clean::Clean;
 use crate::consumer::Consumer;
 use crate::outcome::Outcome;
 use crate::planned_message::PlannedMessage;
+use base::{mix, mix_bytes};
 use pdo_stations::Mapped;
 use project_messages::Message;
-
-/// What a fingerprint is multiplied by ahead of each number (the factor of Knuth's MMIX generator): odd, so that no
-/// two become one by it.
-const FACTOR: u64 = 0x5851_F42D_4C95_7F2D;
-
-/// A fingerprint with one more number.
-#[tactic(auto, unfolding(crate::specs::Fingerprint::mix))]
-fn mix(fingerprint: u64, number: u64) -> u64
-    ensures { result ≡ mix fingerprint number }
-{
-    fingerprint.wrapping_mul(FACTOR).wrapping_add(number)
-}
 
 /// What a fingerprint is taken of.
 trait Part {
@@ -44,14 +34,6 @@ fn with_all<T: Part>(fingerprint: u64, parts: &[T]) -> u64
         rest = after;
     }
     all
-}
-
-impl Part for u8 {
-    ghost with_part = { mix };
-
-    fn put_behind(&self, fingerprint: u64) -> u64 {
-        mix(fingerprint, u64::from(*self))
-    }
 }
 
 impl Part for Mapped {
@@ -116,7 +98,7 @@ impl Part for PlannedMessage {
     ghost with_part = { with_planned };
 
     fn put_behind(&self, fingerprint: u64) -> u64 {
-        let named = with_all(fingerprint, self.name.as_slice());
+        let named = mix_bytes(fingerprint, self.name.as_slice());
         with_outcome(named, &self.outcome)
     }
 }

@@ -1,6 +1,6 @@
 use Rattle.std.proofs.Common.{ap, ◌∙◌, ◌==◌, ◌||◌}
 use Rattle.device_agenda.specs.Groups.{group_of, includes}
-use Rattle.dict_values.proofs.MarkLemmas.{one_more}
+use Rattle.device_agenda.proofs.GroupLemmas.{one_more}
 use Rattle.device_agenda.proofs.groups.Groups.with.Goals as goal
 
 pub returns : goal.returns
