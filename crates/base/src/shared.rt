@@ -1,5 +1,5 @@
 //! A value that several hold.
-ghost use Rattle.std.specs.Prelude.{◌≡◌, IfOk};
+ghost use Rattle.std.specs.Prelude.{◌≡◌, ◌⊎◌, IfOk};
 ghost use Rattle.std.specs.Option.{option_copied};
 
 use std::alloc::{AllocError, Global};
@@ -77,4 +77,16 @@ pub fn share_of<T: Drop>(value: Option<&Shared<T>>) -> Result<Option<Shared<T>>,
         }
         None => Ok(None),
     }
+}
+
+/// Makes the value behind a handle its own, where others hold it too: it takes a copy then. Ask it ahead of
+/// `Rc::get_mut`: where no other holds the value, that costs nothing, and `Rc::make_mut` clears the room for a copy
+/// each time.
+pub fn unshare<T: Clone + Drop>(handle: &mut Rc<T>) -> Result<(), AllocError>
+    ensures kept { (handle.new.value ≡ handle.old.value) ⊎ T.is_clone handle.old.value handle.new.value }
+{
+    if Rc::strong_count(handle) > 1 {
+        Rc::make_mut(handle)?;
+    }
+    Ok(())
 }

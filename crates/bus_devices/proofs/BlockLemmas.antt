@@ -3,13 +3,15 @@ use Rattle.std.proofs.Common.{◌≡◌, ℕ, zero, suc, ◌+◌, ◌-◌, ◌<�
 use Rattle.std.proofs.Common.{sym, ap, ◌∙◌, append_assoc, subst, arith}
 use Rattle.std.specs.Prelude.{min, OnOk, Result, Ok, Err}
 use Rattle.std.proofs.Math.ListN.{set}
-use Rattle.std.proofs.lemmas.List.{append-nil, drop_all, drop_at, drop_min, length-drop, length-take, take-append-drop}
+use Rattle.std.proofs.lemmas.List.{append-nil, drop_all, drop_at, drop_min, length-drop, length-take, map-append}
+use Rattle.std.proofs.lemmas.List.{take-append-drop}
 use Rattle.std.proofs.lemmas.List.{take_all, take_at, take_min, take_more}
 use Rattle.image_parts.proofs.RecordLemmas.{asked_in_turn}
 use Rattle.image_parts.specs.Asking.{Asking, Seen, outcome, reads}
 use Rattle.image_parts.specs.Record.{IsAsked}
-use Rattle.bus_devices.specs.Blocks.{AreBlocksOf, IsBlockOf}
+use Rattle.bus_devices.specs.Blocks.{AreBlocksOf, AreEightsOf, IsBlockOf, outlooks_of}
 use Rattle.bus_devices.specs.declared.block.Block.{Block}
+use Rattle.bus_devices.specs.declared.outlook.Outlook.{Outlook}
 use Rattle.image_parts.specs.Each.{each}
 use Rattle.image_parts.proofs.EachLemmas.{outcome_each, reads_each}
 use Rattle.co_device.specs.Device.{Device}
@@ -52,57 +54,60 @@ all_planned blocks all ds none before = rw (append-nil {A = Block} blocks) at (b
 
 -- ---- what is known of all blocks
 
--- what is known of devices, and a block of others, give what is known then of all
-abbrev Gives : (List Device → Type 0) → Block → (List Device → Type 0) → Type 0
-Gives Known b Then = (ds es : List Device) → Known ds → IsBlockOf b es → Then (ds ++ es)
+-- what is known of devices, and of others, give what is known then of all
+abbrev Gives : (List Device → Type 0) → (List Device → Type 0) → (List Device → Type 0) → Type 0
+Gives Known Next Then = (ds es : List Device) → Known ds → Next es → Then (ds ++ es)
 
--- it is known of those before, and the blocks that are left are of those behind
-pub record IsKnownSoFar (Known : List Device → Type 0) (left : List Block) (ds : List Device) : Type 0 where
+-- it is known of those before, and what is known of the blocks that are left is of those behind
+pub record IsKnownSoFar (Of : Outlook → List Device → Type 0) (Known : List Device → Type 0) (left : List Block)
+    (ds : List Device) : Type 0 where
   pub before : List Device
   pub behind : List Device
   pub whole : before ++ behind ≡ ds
   pub known : Known before
-  pub rest : AreBlocksOf left behind
+  pub rest : AreEightsOf Of left behind
 
-pub none_so_far : (Known : List Device → Type 0) (blocks : List Block) (ds : List Device) → Known []
-    → AreBlocksOf blocks ds → IsKnownSoFar Known blocks ds
-none_so_far Known blocks ds none h = record { before = []; behind = ds; whole = refl; known = none; rest = h }
+module _ (Of : Outlook → List Device → Type 0) where
+  pub none_so_far : (Known : List Device → Type 0) (blocks : List Block) (ds : List Device) → Known []
+      → AreEightsOf Of blocks ds → IsKnownSoFar Of Known blocks ds
+  none_so_far Known blocks ds none h = record { before = []; behind = ds; whole = refl; known = none; rest = h }
 
-one_known : (Known Then : List Device → Type 0) (a : Block) (left : List Block) (ds : List Device)
-    → Gives Known a Then → IsKnownSoFar Known (a ∷ left) ds → IsKnownSoFar Then left ds
-one_known Known Then a left ds gives h = record {
-  before = h.before ++ take 8 h.behind;
-  behind = drop 8 h.behind;
-  whole = append_assoc h.before (take 8 h.behind) (drop 8 h.behind)
-      ∙ ap (λ (xs : List Device). h.before ++ xs) (take-append-drop {A = Device} 8 h.behind) ∙ h.whole;
-  known = gives h.before (take 8 h.behind) h.known h.rest.0;
-  rest = h.rest.1;
-}
+  one_known : (Known Then : List Device → Type 0) (a : Block) (left : List Block) (ds : List Device)
+      → Gives Known (Of a.outlook) Then → IsKnownSoFar Of Known (a ∷ left) ds → IsKnownSoFar Of Then left ds
+  one_known Known Then a left ds gives h = record {
+    before = h.before ++ take 8 h.behind;
+    behind = drop 8 h.behind;
+    whole = append_assoc h.before (take 8 h.behind) (drop 8 h.behind)
+        ∙ ap (λ (xs : List Device). h.before ++ xs) (take-append-drop {A = Device} 8 h.behind) ∙ h.whole;
+    known = gives h.before (take 8 h.behind) h.known h.rest.0;
+    rest = h.rest.1;
+  }
 
-next_known : (Known Then : List Device → Type 0) (d : Block) (blocks : List Block) (i : ℕ) (ds : List Device)
-    → i < length blocks → Gives Known (get_or blocks i d) Then → IsKnownSoFar Known (drop i blocks) ds
-    → IsKnownSoFar Then (drop (suc i) blocks) ds
-next_known Known Then d [] i ds within gives h = absurd (omega (arith, within))
-next_known Known Then d (b ∷ blocks) zero ds within gives h = one_known Known Then b blocks ds gives h
-next_known Known Then d (b ∷ blocks) (suc i) ds within gives h =
-    next_known Known Then d blocks i ds (omega (arith, within)) gives h
+  next_known : (Known Then : List Device → Type 0) (d : Block) (blocks : List Block) (i : ℕ) (ds : List Device)
+      → i < length blocks → Gives Known (Of (get_or blocks i d).outlook) Then → IsKnownSoFar Of Known (drop i blocks) ds
+      → IsKnownSoFar Of Then (drop (suc i) blocks) ds
+  next_known Known Then d [] i ds within gives h = absurd (omega (arith, within))
+  next_known Known Then d (b ∷ blocks) zero ds within gives h = one_known Known Then b blocks ds gives h
+  next_known Known Then d (b ∷ blocks) (suc i) ds within gives h =
+      next_known Known Then d blocks i ds (omega (arith, within)) gives h
 
-pub one_block_known : (Known Then : List Device → Type 0) (d : Block) (blocks : List Block) (i : ℕ) (ds : List Device)
-    → i < length blocks → Gives Known (get_or blocks i d) Then → IsKnownSoFar Known (drop i blocks) ds
-    → IsKnownSoFar Then (drop (i + 1) blocks) ds
-one_block_known Known Then d blocks i ds within gives h =
-    let after : suc i ≡ i + 1 = omega arith in
-    subst (λ (n : ℕ). IsKnownSoFar Then (drop n blocks) ds) after (next_known Known Then d blocks i ds within gives h)
+  pub one_block_known : (Known Then : List Device → Type 0) (d : Block) (blocks : List Block) (i : ℕ)
+      (ds : List Device) → i < length blocks → Gives Known (Of (get_or blocks i d).outlook) Then
+      → IsKnownSoFar Of Known (drop i blocks) ds → IsKnownSoFar Of Then (drop (i + 1) blocks) ds
+  one_block_known Known Then d blocks i ds within gives h =
+      let after : suc i ≡ i + 1 = omega arith in
+      subst (λ (n : ℕ). IsKnownSoFar Of Then (drop n blocks) ds) after
+      (next_known Known Then d blocks i ds within gives h)
 
-all_known_by : (Known : List Device → Type 0) (left : List Block) (ds : List Device) → left ≡ []
-    → IsKnownSoFar Known left ds → Known ds
-all_known_by Known [] ds e h = subst Known (sym (append-nil {A = Device} h.before)
-    ∙ ap (λ (xs : List Device). h.before ++ xs) (sym h.rest) ∙ h.whole) h.known
-all_known_by Known (b ∷ left) ds e h = absurd cc
+  all_known_by : (Known : List Device → Type 0) (left : List Block) (ds : List Device) → left ≡ []
+      → IsKnownSoFar Of Known left ds → Known ds
+  all_known_by Known [] ds e h = subst Known (sym (append-nil {A = Device} h.before)
+      ∙ ap (λ (xs : List Device). h.before ++ xs) (sym h.rest) ∙ h.whole) h.known
+  all_known_by Known (b ∷ left) ds e h = absurd cc
 
-pub all_known : (Known : List Device → Type 0) (blocks : List Block) (i : ℕ) (ds : List Device) → length blocks ≤ i
-    → IsKnownSoFar Known (drop i blocks) ds → Known ds
-all_known Known blocks i ds past h = all_known_by Known (drop i blocks) ds (drop_all i blocks past) h
+  pub all_known : (Known : List Device → Type 0) (blocks : List Block) (i : ℕ) (ds : List Device) → length blocks ≤ i
+      → IsKnownSoFar Of Known (drop i blocks) ds → Known ds
+  all_known Known blocks i ds past h = all_known_by Known (drop i blocks) ds (drop_all i blocks past) h
 
 -- ---- a block and what follows it
 
@@ -179,6 +184,20 @@ pub one_set : (blocks : List Block) (a : Block) → length blocks ≡ 1 → set 
 one_set [] a e = absurd (omega (arith, e))
 one_set (b ∷ []) a e = refl
 one_set (b ∷ c ∷ blocks) a e = absurd (omega (arith, e))
+
+-- the same is known of blocks of which one ran, and of which the same is known then, and of those behind it
+pub outlooks_as : (blocks asleep awake firsts others new : List Block) (a d : Block) → blocks ≡ asleep ++ awake
+    → awake ≡ firsts ++ others → length firsts ≡ 1 → a.outlook ≡ (get_or firsts 0 d).outlook
+    → outlooks_of new ≡ outlooks_of others → outlooks_of (asleep ++ (set firsts 0 a ++ new)) ≡ outlooks_of blocks
+outlooks_as blocks asleep awake [] others new a d whole e one same rest = absurd (omega (arith, one))
+outlooks_as blocks asleep awake (b ∷ []) others new a d whole e one same rest =
+    let outlook : Block → Outlook = λ x. x.outlook in
+    map-append outlook asleep (a ∷ new)
+    ∙ ap (λ (xs : List Outlook). outlooks_of asleep ++ xs)
+    (ap (λ (o : Outlook). o ∷ outlooks_of new) same ∙ ap (λ (xs : List Outlook). b.outlook ∷ xs) rest)
+    ∙ sym (map-append outlook asleep (b ∷ others))
+    ∙ ap outlooks_of (ap (λ (xs : List Block). asleep ++ xs) (sym e) ∙ sym whole)
+outlooks_as blocks asleep awake (b ∷ c ∷ firsts) others new a d whole e one same rest = absurd (omega (arith, one))
 
 -- ---- where both went well
 

@@ -15,6 +15,7 @@ use Rattle.bus_devices.specs.Blocks.{AreBlocksOf, IsBlockOf, block_sleeps}
 use Rattle.bus_devices.specs.declared.block.Block.{Block}
 use Rattle.bus_devices.proofs.BlockLemmas.{both_of, length_each, outcome_append, reads_append}
 use Rattle.bus_devices.proofs.IdleLemmas.{idle}
+use Rattle.bus_devices.proofs.OutlookLemmas.{block_outlook}
 use Rattle.co_device.specs.Device.{Device}
 use Rattle.image_parts.specs.Contents.{Content, Image}
 use Rattle.image_parts.specs.declared.part.Part.{Part}
@@ -43,8 +44,8 @@ module _ (t : ℕ) (delivered : Option Delivered) (bound : IfSome delivered (λ 
       let more : m ≡ 8 + 8 * n = omega (arith, e) in
       subst Idle (sym (ap (λ (k : ℕ). take k ds) more ∙ take-add {A = Device} 8 (8 * n) ds))
       (all_both (λ d. at_instant t delivered d ≡ Answer d) (take 8 ds) (take (8 * n) (drop 8 ds))
-      (nothing_reaches (agenda_by b.outlook.alarm) b.low_bytes (take 8 ds) t delivered bound h.0.outlook.agenda h.0.low_bytes
-      asleep.0)
+      (nothing_reaches (agenda_by b.outlook.alarm) b.low_bytes (take 8 ds) t delivered bound
+      (block_outlook b (take 8 ds) h.0).agenda h.0.low_bytes asleep.0)
       (all_idle_in n (8 * n) blocks (drop 8 ds) refl h.1 asleep.1))
 
 pub idle_first : (t : ℕ) (delivered : Option Delivered) (n m : ℕ) (blocks : List Block) (ds : List Device)

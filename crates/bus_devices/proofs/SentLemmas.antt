@@ -7,7 +7,8 @@ use Rattle.std.proofs.lemmas.List.{drop-set-add, drop-set-lt, get_or-drop, lengt
 use Rattle.std.proofs.lemmas.List.{take_at}
 use Rattle.std.proofs.Math.Seq.{drop-nil, take-set-lt}
 use Rattle.base.specs.Moments.{earliest}
-use Rattle.bus_devices.specs.Blocks.{AreBlocksOf, AreOutlooksOf, IsBlockOf, IsDueAsBefore, WasKnown}
+use Rattle.bus_devices.specs.Blocks.{AreBlocksOf, AreEachOf, AreOutlooksOf, IsAlarmOf, IsBestOf, IsBlockOf, IsDueAsBefore}
+use Rattle.bus_devices.specs.Blocks.{WasKnown, alarms_of}
 use Rattle.bus_devices.specs.declared.outlook.Outlook.{Outlook}
 use Rattle.bus_devices.specs.declared.block.Block.{Block}
 use Rattle.bus_devices.proofs.SenderLemmas.{IsBest}
@@ -19,6 +20,7 @@ use Rattle.device_agenda.specs.Agenda.{IsAgendaOf, Sleeps}
 use Rattle.device_agenda.specs.Alarms.{agenda_by}
 use Rattle.device_agenda.specs.LowBytes.{AreDeafBeyond, IsDeafBeyond}
 use Rattle.device_agenda.specs.declared.agenda.Agenda.{Agenda}
+use Rattle.device_agenda.specs.declared.alarm.Alarm.{Alarm}
 use Rattle.device_agenda.specs.declared.low_bytes.LowBytes.{LowBytes}
 use Rattle.device_agenda.proofs.AgendaLemmas.{sent_deaf_beyond, sent_sleeps}
 use Rattle.device_agenda.proofs.RestLemmas.{sent_moments}
@@ -45,12 +47,28 @@ sent_is_due was now place e =
 
 -- ---- devices
 
+-- what is known of each, with the frame that wins at the device of a place
+abbrev pub with_own : List Outlook → ℕ → Option Contender → Outlook → List Outlook
+with_own outlooks i own o = set outlooks i (record (get_or outlooks i o) { best = own })
+
 -- a block with the frames that win in it: at the device of a place, and of all
 abbrev pub with_bests : Block → ℕ → Option Contender → Option Contender → Outlook → Block
 with_bests b i own best o = record b {
   outlook = record b.outlook { best = best };
-  each = set b.each i (record (get_or b.each i o) { best = own });
+  each = with_own b.each i own o;
 }
+
+-- a frame wins of those of so many devices, by what is known of each
+abbrev pub WinsByEach : Option Contender → ℕ → List Outlook → Type 0
+WinsByEach best count each = (ds : List Device) → length ds ≡ count → AreEachOf IsBestOf each ds → IsBest best ds
+
+-- their alarms are as before
+alarms_before : (outlooks : List Outlook) (ds : List Device) (i : ℕ) (own : Option Contender) (o : Outlook)
+    → AreEachOf IsAlarmOf (with_own outlooks i own o) ds → AreEachOf IsAlarmOf outlooks ds
+alarms_before outlooks [] i own o h = tt
+alarms_before [] (x ∷ ds) i own o h = h
+alarms_before (a ∷ outlooks) (x ∷ ds) zero own o h = h
+alarms_before (a ∷ outlooks) (x ∷ ds) (suc i) own o h = (h.0, alarms_before outlooks ds i own o h.1)
 
 either_default : (ds : List Device) (i : ℕ) (d e : Device) → i < length ds → get_or ds i d ≡ get_or ds i e
 either_default [] i d e within = absurd (omega (arith, within))
@@ -94,7 +112,7 @@ module _ (now d : Device) where
   -- what is known of each, with the frame that wins there now
   outlooks_set : (outlooks : List Outlook) (ds : List Device) (i : ℕ) (own : Option Contender) (o : Outlook)
       → IsDueAsBefore (get_or ds i d) now → IsBest own (now ∷ []) → AreOutlooksOf outlooks ds
-      → AreOutlooksOf (set outlooks i (record (get_or outlooks i o) { best = own })) (set ds i now)
+      → AreOutlooksOf (with_own outlooks i own o) (set ds i now)
   outlooks_set outlooks [] i own o h wins all = tt
   outlooks_set [] (x ∷ ds) i own o h wins all = absurd all
   outlooks_set (a ∷ outlooks) (x ∷ ds) zero own o h wins all =
@@ -104,12 +122,15 @@ module _ (now d : Device) where
 
   -- what is known of a block, with the frames that win in it now
   block_set : (b : Block) (ds : List Device) (i : ℕ) (own best : Option Contender) (o : Outlook)
-      → IsDueAsBefore (get_or ds i d) now → IsBest own (now ∷ []) → IsBest best (set ds i now) → IsBlockOf b ds
-      → IsBlockOf (with_bests b i own best o) (set ds i now)
+      → IsDueAsBefore (get_or ds i d) now → IsBest own (now ∷ []) → WinsByEach best (length ds) (with_own b.each i own o)
+      → IsBlockOf b ds → IsBlockOf (with_bests b i own best o) (set ds i now)
   block_set b ds i own best o h one wins known = record {
-    outlook = record { agenda = agenda_set (agenda_by b.outlook.alarm) ds i h known.outlook.agenda; best = wins };
-    low_bytes = deaf_set b.low_bytes ds i h known.low_bytes;
     each = outlooks_set b.each ds i own o h one known.each;
+    outlook = record {
+      alarm = λ es long each. known.outlook.alarm es (long ∙ length-set ds i now) (alarms_before b.each es i own o each);
+      best = λ es long each. wins es (long ∙ length-set ds i now) each;
+    };
+    low_bytes = deaf_set b.low_bytes ds i h known.low_bytes;
   }
 
 -- ---- blocks
@@ -128,20 +149,20 @@ module _ (i : ℕ) (b : Block) (ds : List Device) (h : WasKnown (IsBlockOf b) i 
 
   -- what is known of each anew, where frames have changed at a device
   pub own_planned : (d : Device) (own : Option Contender) (o : Outlook) → d ≡ get_or ds i d → IsBest own (d ∷ [])
-      → AreOutlooksOf (set b.each i (record (get_or b.each i o) { best = own })) ds
+      → AreOutlooksOf (with_own b.each i own o) ds
   own_planned d own o is one =
-      subst (AreOutlooksOf (set b.each i (record (get_or b.each i o) { best = own }))) (sym h.changed)
+      subst (AreOutlooksOf (with_own b.each i own o)) (sym h.changed)
       (outlooks_set h.now (without_power false 0) b.each h.before i own o h.still
       (subst (λ (x : Device). IsBest own (x ∷ [])) (now_at d is) one) h.of.each)
 
   -- and so is the block
   pub bests_planned : (d : Device) (own best : Option Contender) (o : Outlook) → d ≡ get_or ds i d
-      → IsBest own (d ∷ []) → IsBest best ds → IsBlockOf (with_bests b i own best o) ds
+      → IsBest own (d ∷ []) → WinsByEach best (length ds) (with_own b.each i own o) → IsBlockOf (with_bests b i own best o) ds
   bests_planned d own best o is one wins =
       subst (λ (xs : List Device). IsBlockOf (with_bests b i own best o) xs) (sym h.changed)
       (block_set h.now (without_power false 0) b h.before i own best o h.still
       (subst (λ (x : Device). IsBest own (x ∷ [])) (now_at d is) one)
-      (subst (λ (xs : List Device). IsBest best xs) h.changed wins) h.of)
+      (λ es long each. wins es (long ∙ sym as_many_now) each) h.of)
 
 get_taken : (n : ℕ) (ds : List Device) (r : ℕ) (d : Device) → r < n → get_or (take n ds) r d ≡ get_or ds r d
 get_taken zero ds r d near = absurd (omega (arith, near))
@@ -247,6 +268,14 @@ module _ (i : ℕ) (blocks : List Block) (ds : List Device) (h : WasKnown (AreBl
             ∙ ap (take 8) (drop-set-add (i / 8 * 8) h.before (i % 8) h.now)
             ∙ take-set-lt 8 behind (i % 8) h.now near;
       }
+
+-- a block with the alarm of before
+pub alarms_set : (blocks : List Block) (k : ℕ) (b : Block) (anew : Block) → anew.outlook.alarm ≡ (get_or blocks k b).outlook.alarm
+    → alarms_of (set blocks k anew) ≡ alarms_of blocks
+alarms_set [] k b anew e = refl
+alarms_set (x ∷ blocks) zero b anew e = ap (λ (a : Alarm). a ∷ alarms_of blocks) e
+alarms_set (x ∷ blocks) (suc k) b anew e =
+    ap (λ (alarms : List Alarm). x.outlook.alarm ∷ alarms) (alarms_set blocks k b anew e)
 
 -- what is written back to a list of as many is the list
 pub written_back : (new items : List Block) (n : ℕ) → length new ≡ n → take n (new ++ drop (length new) items) ≡ new

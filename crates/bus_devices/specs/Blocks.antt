@@ -1,5 +1,5 @@
 -- Blocks of eight devices.
-use Rattle.std.specs.Prelude.{◌≡◌, ◌<◌, ℕ, Bool, List, [], ◌∷◌, length, slice_set, take, drop, Option, ⊤}
+use Rattle.std.specs.Prelude.{◌≡◌, ◌<◌, ℕ, Bool, List, [], ◌∷◌, length, map, slice_set, take, drop, Option, ⊤}
 use Rattle.bus_devices.specs.Senders.{device_lists}
 use Rattle.bus_devices.specs.declared.outlook.Outlook.{Outlook}
 use Rattle.bus_devices.specs.declared.block.Block.{Block}
@@ -9,26 +9,44 @@ use Rattle.co_device.specs.Device.{Device, moments}
 use Rattle.device_agenda.specs.Agenda.{IsAgendaOf, Sleeps}
 use Rattle.device_agenda.specs.Alarms.{agenda_by}
 use Rattle.device_agenda.specs.Delivered.{Delivered}
+use Rattle.device_agenda.specs.declared.alarm.Alarm.{Alarm}
 use Rattle.device_agenda.specs.LowBytes.{AreDeafBeyond, IsDeafBeyond, sleeps_on}
 use Rattle.device_agenda.specs.declared.groups.Groups.{Groups}
 use Rattle.device_agenda.specs.declared.low_bytes.LowBytes.{LowBytes}
 
--- what is known of devices: their agenda, by an alarm, and which of the frames that wait at them wins
+-- when devices have to run, by an alarm
+abbrev pub IsAlarmOf : Outlook → List Device → Type 0
+IsAlarmOf outlook ds = IsAgendaOf (agenda_by outlook.alarm) ds
+
+-- which of the frames that wait at devices wins
+abbrev pub IsBestOf : Outlook → List Device → Type 0
+IsBestOf outlook ds = IsWinner (contenders (device_lists ds)) outlook.best
+
+-- what is known of devices: both
 pub record IsOutlookOf (outlook : Outlook) (ds : List Device) : Type 0 where
-  pub agenda : IsAgendaOf (agenda_by outlook.alarm) ds
-  pub best : IsWinner (contenders (device_lists ds)) outlook.best
+  pub agenda : IsAlarmOf outlook ds
+  pub best : IsBestOf outlook ds
 
--- what is known of each of the devices; there may be more of it
+-- it is known of each of the devices; there may be more of it
+abbrev pub AreEachOf : (Outlook → List Device → Type 0) → List Outlook → List Device → Type 0
+AreEachOf Of outlooks [] = ⊤
+AreEachOf Of [] (d ∷ ds) = ⊥
+AreEachOf Of (o ∷ outlooks) (d ∷ ds) = Of o (d ∷ []) × AreEachOf Of outlooks ds
+
 abbrev pub AreOutlooksOf : List Outlook → List Device → Type 0
-AreOutlooksOf outlooks [] = ⊤
-AreOutlooksOf [] (d ∷ ds) = ⊥
-AreOutlooksOf (o ∷ outlooks) (d ∷ ds) = IsOutlookOf o (d ∷ []) × AreOutlooksOf outlooks ds
+AreOutlooksOf outlooks ds = AreEachOf IsOutlookOf outlooks ds
 
--- what is known of the devices of a block: of all of them, beyond which low bytes they are deaf, and of each
+-- WHAT IS KNOWN OF SO MANY DEVICES FOLLOWS FROM WHAT IS KNOWN OF EACH: it stays where that does, whatever they did
+pub record FollowsFromEach (outlook : Outlook) (each : List Outlook) (count : ℕ) : Type 0 where
+  pub alarm : (ds : List Device) → length ds ≡ count → AreEachOf IsAlarmOf each ds → IsAlarmOf outlook ds
+  pub best : (ds : List Device) → length ds ≡ count → AreEachOf IsBestOf each ds → IsBestOf outlook ds
+
+-- what is known of the devices of a block: of each, what follows of all of them, and beyond which low bytes they are
+-- deaf
 pub record IsBlockOf (block : Block) (ds : List Device) : Type 0 where
-  pub outlook : IsOutlookOf block.outlook ds
-  pub low_bytes : AreDeafBeyond block.low_bytes ds
   pub each : AreOutlooksOf block.each ds
+  pub outlook : FollowsFromEach block.outlook block.each (length ds)
+  pub low_bytes : AreDeafBeyond block.low_bytes ds
 
 -- nothing happens to its devices in an instant
 abbrev pub block_sleeps : ℕ → Option Delivered → Block → Bool
@@ -38,6 +56,23 @@ block_sleeps t delivered block = sleeps_on t delivered block.low_bytes (agenda_b
 abbrev pub AreBlocksOf : List Block → List Device → Type 0
 AreBlocksOf [] ds = ds ≡ []
 AreBlocksOf (block ∷ blocks) ds = IsBlockOf block (take 8 ds) × AreBlocksOf blocks (drop 8 ds)
+
+-- it is known of the devices, of eight at a time
+abbrev pub AreEightsOf : (Outlook → List Device → Type 0) → List Block → List Device → Type 0
+AreEightsOf Of [] ds = ds ≡ []
+AreEightsOf Of (block ∷ blocks) ds = Of block.outlook (take 8 ds) × AreEightsOf Of blocks (drop 8 ds)
+
+-- WHAT IS KNOWN OF ALL DEVICES FOLLOWS FROM WHAT IS KNOWN OF EACH EIGHT
+pub record FollowsFromBlocks (whole : Outlook) (blocks : List Block) : Type 0 where
+  pub alarm : (ds : List Device) → AreEightsOf IsAlarmOf blocks ds → IsAlarmOf whole ds
+  pub best : (ds : List Device) → AreEightsOf IsBestOf blocks ds → IsBestOf whole ds
+
+-- what is known of the devices of each block, and the alarm of each
+abbrev pub outlooks_of : List Block → List Outlook
+outlooks_of blocks = map (λ b. b.outlook) blocks
+
+abbrev pub alarms_of : List Block → List Alarm
+alarms_of blocks = map (λ b. b.outlook.alarm) blocks
 
 -- a device is due, sleeps and is deaf as before, and where no frame waited at it, none does
 pub record IsDueAsBefore (was now : Device) : Type 0 where
@@ -55,7 +90,7 @@ pub record WasKnown (Known : List Device → Type 0) (i : ℕ) (ds : List Device
   pub still : IsDueAsBefore (device_at before i) now
   pub changed : ds ≡ slice_set before i now
 
--- what is known of the devices of a bus: of each eight of them, and of all
+-- what is known of the devices of a bus: of each eight of them, and what follows of all
 pub record AreKnown (blocks : List Block) (whole : Outlook) (ds : List Device) : Type 0 where
   pub each : AreBlocksOf blocks ds
-  pub all : IsOutlookOf whole ds
+  pub all : FollowsFromBlocks whole blocks

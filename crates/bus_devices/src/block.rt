@@ -2,7 +2,7 @@
 
 ghost use Rattle.std.specs.Prelude.{◌≡◌, ◌<◌, ◌≤◌, ◌∷◌, [], List, false, length, option_copied, IfOk, IfSome, IsTrue, OnOk};
 ghost use Rattle.image_parts.specs.Record.{GoesBy, Lasts};
-ghost use Rattle.bus_devices.specs.Blocks.{AreOutlooksOf, IsBlockOf, IsOutlookOf};
+ghost use Rattle.bus_devices.specs.Blocks.{AreEachOf, AreOutlooksOf, FollowsFromEach, IsBestOf, IsBlockOf, IsOutlookOf};
 ghost use Rattle.bus_devices.specs.Numbers.{device_of as first_of, values_of as first_values_of};
 ghost use Rattle.bus_devices.specs.Senders.{contends_with as contends, device_lists, is_contender, sender_place};
 ghost use Rattle.image_parts.specs.Each.{each};
@@ -44,7 +44,7 @@ impl Block {
     {
         let each = outlooks_of(devices);
         Block {
-            outlook: outlook_of(&each, devices),
+            outlook: outlook_of(&each, devices.len()),
             low_bytes: low_bytes_of(devices),
             each,
         }
@@ -63,13 +63,13 @@ fn outlooks_of(devices: &[ScheduledDevice]) -> [Outlook; BLOCK]
     outlooks
 }
 
-/// What is known of devices, by what is known of each.
-pub(crate) fn outlook_of(each: &[Outlook], devices: &[ScheduledDevice]) -> Outlook
-    requires { AreOutlooksOf each.now devices.now }
-    ensures { IsOutlookOf result devices.now }
+/// What is known of so many devices, by what is known of each.
+pub(crate) fn outlook_of(each: &[Outlook], count: usize) -> Outlook
+    requires { count ≤ length each.now }
+    ensures { FollowsFromEach result each.now count }
 {
     let mut all = Outlook::none();
-    for place in 0..devices.len() {
+    for place in 0..count {
         all.add(&each[place]);
     }
     all
@@ -87,8 +87,8 @@ fn low_bytes_of(devices: &[ScheduledDevice]) -> LowBytes
 }
 
 /// Runs a device of which this is known, if it has to run at the moment t, at which this is delivered, and says
-/// whether it had to. It isn't touched where it is known that it sleeps; where it ran, what is known of it is worked
-/// out anew, and its low bytes come to those of its block.
+/// whether another thing is known of it then. It isn't touched where it is known that it sleeps; where it ran, what is
+/// known of it is worked out anew, and its low bytes come to those of its block.
 fn run_one<P: Shapes>(
     device: &mut ScheduledDevice,
     outlook: &mut Outlook,
@@ -105,21 +105,23 @@ fn run_one<P: Shapes>(
     ensures ran { OnOk result (GoesBy (at_instant t delivery.now device.old) device.new
         P.seen P.asks shapes.old shapes.new) }
     ensures lasts { Lasts (P.seen shapes.old) (P.seen shapes.new) }
-    ensures still { IfOk result (λ ran. ran ≡ false → device.new ≡ device.old) }
+    ensures still { IfOk result (λ changed. changed ≡ false → outlook.new ≡ outlook.old) }
 {
     if outlook.alarm.sleeps_through(t, delivery) {
         return Ok(false);
     }
     let ran = device.run_instant(t, delivery, shapes)?;
-    if ran {
-        *outlook = Outlook::of(device);
-        *low_bytes = low_bytes.and(&device.low_bytes());
+    if !ran {
+        return Ok(false);
     }
-    Ok(ran)
+    let before = *outlook;
+    *outlook = Outlook::of(device);
+    *low_bytes = low_bytes.and(&device.low_bytes());
+    Ok(!outlook.same(&before))
 }
 
-/// Runs each device that has to run at the moment t, at which this is delivered, and says whether one had to. What is
-/// known of each, and their low bytes, become those of behind it.
+/// Runs each device that has to run at the moment t, at which this is delivered, and says whether another thing is known
+/// of one of them then. What is known of each, and their low bytes, become those of behind it.
 pub(crate) fn run_each<P: Shapes>(
     devices: &mut [ScheduledDevice],
     outlooks: &mut [Outlook],
@@ -136,14 +138,14 @@ pub(crate) fn run_each<P: Shapes>(
     ensures ran { OnOk result (GoesBy (each (at_instant t delivery.now) devices.old) devices.new
         P.seen P.asks shapes.old shapes.new) }
     ensures lasts { Lasts (P.seen shapes.old) (P.seen shapes.new) }
-    ensures still { IfOk result (λ ran. ran ≡ false → devices.new ≡ devices.old) }
+    ensures still { IfOk result (λ changed. changed ≡ false → outlooks.new ≡ outlooks.old) }
 {
-    let mut ran = false;
+    let mut changed = false;
     for (place, device) in devices.iter_mut().enumerate() {
-        let had_to = run_one(device, &mut outlooks[place], low_bytes, t, delivery, shapes)?;
-        ran |= had_to;
+        let other = run_one(device, &mut outlooks[place], low_bytes, t, delivery, shapes)?;
+        changed |= other;
     }
-    Ok(ran)
+    Ok(changed)
 }
 
 /// The first moment at which one of the devices is due, if there is one. Walks them.
@@ -168,13 +170,14 @@ pub(crate) fn winner_of(devices: &[ScheduledDevice]) -> Option<Contender>
     best
 }
 
-/// The same, by what is known of each.
-pub(crate) fn best_of_each(each: &[Outlook], devices: &[ScheduledDevice]) -> Option<Contender>
-    requires { AreOutlooksOf each.now devices.now }
-    ensures { IsWinner (contenders (device_lists devices.now)) result }
+/// The same of so many devices, by what is known of each.
+pub(crate) fn best_of_each(each: &[Outlook], count: usize) -> Option<Contender>
+    requires { count ≤ length each.now }
+    ensures { (devices : List Device) → length devices ≡ count → AreEachOf IsBestOf each.now devices
+        → IsWinner (contenders (device_lists devices)) result }
 {
     let mut best = None;
-    for place in 0..devices.len() {
+    for place in 0..count {
         keep_lower(&mut best, &each[place].best);
     }
     best

@@ -3,7 +3,8 @@
 ghost use Rattle.std.specs.Prelude.{◌≡◌, ◌<◌, ◌≤◌, ◌*◌, false, true, List, length, min, take, IfOk, IfSome, OnOk};
 ghost use Rattle.std.specs.List.{AllByRecursion};
 ghost use Rattle.image_parts.specs.Record.{GoesBy, Lasts};
-ghost use Rattle.bus_devices.specs.Blocks.{AreBlocksOf, IsBlockOf, IsOutlookOf, WasKnown, block_sleeps};
+ghost use Rattle.bus_devices.specs.Blocks.{AreBlocksOf, AreEightsOf, IsBestOf, IsBlockOf, WasKnown, alarms_of, block_sleeps};
+ghost use Rattle.bus_devices.specs.Blocks.{outlooks_of};
 ghost use Rattle.bus_devices.specs.Senders.{device_lists, may_wait_at, sender_place as place_of};
 ghost use Rattle.image_parts.specs.Each.{each};
 ghost use Rattle.can_frame.specs.Winner.{contenders, IsWinner};
@@ -11,7 +12,7 @@ ghost use Rattle.co_device.specs.Device.{Device};
 ghost use Rattle.device_agenda.specs.Agenda.{at_instant};
 
 use crate::block::{BLOCK, Block, best_of_each, outlook_of, place_by_each, run_each};
-use crate::outlook::{Outlook, keep_lower};
+use crate::outlook::keep_lower;
 use can_frame::Contender;
 use device_agenda::{Delivery, ScheduledDevice};
 use device_objects::Shapes;
@@ -39,8 +40,8 @@ pub(crate) fn plan(blocks: &mut Vec<Block>, devices: &[ScheduledDevice]) -> Resu
     Ok(())
 }
 
-/// Runs those of the devices of a block that have to run, and where one had to, puts together anew what is known of
-/// all of them. Says whether one had to.
+/// Runs those of the devices of a block that have to run, and where another thing is known of one then, puts together
+/// anew what is known of all of them. Says whether that is another.
 fn run_block<P: Shapes>(
     block: &mut Block,
     devices: &mut [ScheduledDevice],
@@ -55,9 +56,9 @@ fn run_block<P: Shapes>(
     ensures ran { OnOk result (GoesBy (each (at_instant t delivery.now) devices.old) devices.new
         P.seen P.asks shapes.old shapes.new) }
     ensures lasts { Lasts (P.seen shapes.old) (P.seen shapes.new) }
-    ensures still { IfOk result (λ ran. ran ≡ false → devices.new ≡ devices.old) }
+    ensures still { IfOk result (λ changed. changed ≡ false → block.new.outlook ≡ block.old.outlook) }
 {
-    let ran = run_each(
+    let changed = run_each(
         devices,
         &mut block.each,
         &mut block.low_bytes,
@@ -65,10 +66,12 @@ fn run_block<P: Shapes>(
         delivery,
         shapes,
     )?;
-    if ran {
-        block.outlook = outlook_of(&block.each, devices);
+    if !changed {
+        return Ok(false);
     }
-    Ok(ran)
+    let before = block.outlook;
+    block.outlook = outlook_of(&block.each, devices.len());
+    Ok(!block.outlook.same(&before))
 }
 
 /// How many of the first blocks sleep through the moment t, at which this is delivered.
@@ -99,8 +102,8 @@ fn devices_of(blocks: usize, count: usize) -> usize
     }
 }
 
-/// Runs the devices that have to run, one block after another, and says whether one had to, or one did before
-/// them. Passes over the blocks that sleep, and goes as deep as there are others.
+/// Runs the devices that have to run, one block after another, and says whether another thing is known of a block then,
+/// or of one before them. Passes over the blocks that sleep, and goes as deep as there are others.
 pub(crate) fn run_blocks<P: Shapes>(
     blocks: &mut [Block],
     devices: &mut [ScheduledDevice],
@@ -115,7 +118,8 @@ pub(crate) fn run_blocks<P: Shapes>(
     ensures ran { OnOk result (GoesBy (each (at_instant t delivery.now) devices.old) devices.new
         P.seen P.asks shapes.old shapes.new) }
     ensures lasts { Lasts (P.seen shapes.old) (P.seen shapes.new) }
-    ensures still { IfOk result (λ ran. ran ≡ false → (before ≡ false) × (devices.new ≡ devices.old)) }
+    ensures still { IfOk result (λ changed. changed ≡ false → (before ≡ false)
+        × (outlooks_of blocks.new ≡ outlooks_of blocks.old)) }
 {
     let asleep = asleep(blocks, t, delivery);
     let (_asleep, awake) = blocks.split_at_mut(asleep);
@@ -125,24 +129,26 @@ pub(crate) fn run_blocks<P: Shapes>(
     }
     let (firsts, others) = awake.split_at_mut(1);
     let (block, behind) = rest.split_at_mut(first_block(rest.len()));
-    let ran = run_block(&mut firsts[0], block, t, delivery, shapes)?;
-    run_blocks(others, behind, t, delivery, shapes, before | ran)
+    let changed = run_block(&mut firsts[0], block, t, delivery, shapes)?;
+    run_blocks(others, behind, t, delivery, shapes, before | changed)
 }
 
 /// Works out anew which frames win, after the frames have changed that wait at the device of a place. Walks the block.
 fn plan_best_of(block: &mut Block, devices: &[ScheduledDevice], i: usize)
     requires was { WasKnown (IsBlockOf block.old) i devices.now }
     requires few { length devices.now ≤ 8 }
-    ensures { IsBlockOf block.new devices.now }
+    ensures block { IsBlockOf block.new devices.now }
+    ensures alarm { block.new.outlook.alarm ≡ block.old.outlook.alarm }
 {
     block.each[i].best = devices[i].contender();
-    block.outlook.best = best_of_each(&block.each, devices);
+    block.outlook.best = best_of_each(&block.each, devices.len());
 }
 
 /// The same of the block of the device at a place among all.
 pub(crate) fn plan_best(blocks: &mut [Block], devices: &[ScheduledDevice], i: usize)
     requires { WasKnown (AreBlocksOf blocks.old) i devices.now }
-    ensures { AreBlocksOf blocks.new devices.now }
+    ensures blocks { AreBlocksOf blocks.new devices.now }
+    ensures alarms { alarms_of blocks.new ≡ alarms_of blocks.old }
 {
     let place = i / BLOCK;
     let (_before, rest) = devices.split_at(place * BLOCK);
@@ -152,7 +158,7 @@ pub(crate) fn plan_best(blocks: &mut [Block], devices: &[ScheduledDevice], i: us
 
 /// The least frame that waits at the devices of all blocks. Walks the blocks.
 pub(crate) fn best_of(blocks: &[Block]) -> Option<Contender>
-    ensures { (devices : List Device) → AreBlocksOf blocks.now devices
+    ensures { (devices : List Device) → AreEightsOf IsBestOf blocks.now devices
         → IsWinner (contenders (device_lists devices)) result }
 {
     let mut best = None;
@@ -160,17 +166,6 @@ pub(crate) fn best_of(blocks: &[Block]) -> Option<Contender>
         keep_lower(&mut best, &block.outlook.best);
     }
     best
-}
-
-/// What is known of the devices of all blocks. Walks the blocks.
-pub(crate) fn all_of(blocks: &[Block]) -> Outlook
-    ensures { (devices : List Device) → AreBlocksOf blocks.now devices → IsOutlookOf result devices }
-{
-    let mut all = Outlook::none();
-    for block in blocks {
-        all.add(&block.outlook);
-    }
-    all
 }
 
 /// Whether a frame can be one of those waiting at devices, of which this is the least.

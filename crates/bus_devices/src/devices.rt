@@ -16,7 +16,8 @@ ghost use Rattle.device_agenda.specs.Agenda.{at_instant};
 
 use crate::apart::Apart;
 use crate::block::{Block, first_due, place_of_sender, values_of, winner_of};
-use crate::blocks::{all_of, best_of, plan, plan_best, run_blocks, sender_place};
+use crate::blocks::{best_of, plan_best, sender_place};
+use crate::known::{know, run_known};
 use crate::lists::{copy_all, differ_at, tell_apart};
 use crate::outlook::Outlook;
 use can_frame::{Contender, Waiting};
@@ -154,17 +155,13 @@ impl Devices {
         if self.known && self.all.alarm.sleeps_through(t, delivery) {
             return Ok(());
         }
-        let unknown = !self.known;
-        if unknown {
-            plan(&mut self.blocks, &self.devices)?;
+        if !self.known {
+            self.all = know(&mut self.blocks, &self.devices)?;
         }
         self.known = false;
         let blocks = self.blocks.as_mut_slice();
         let devices = self.devices.as_mut_slice();
-        let changed = run_blocks(blocks, devices, t, delivery, shapes, unknown)?;
-        if changed {
-            self.all = all_of(&self.blocks);
-        }
+        run_known(blocks, &mut self.all, devices, t, delivery, shapes)?;
         self.known = true;
         Ok(())
     }

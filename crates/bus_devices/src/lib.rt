@@ -7,6 +7,7 @@ mod blocks;
 mod devices;
 pub mod event_laws;
 mod events;
+mod known;
 mod lists;
 mod outlook;
 

@@ -62,26 +62,37 @@ fn values_differ_at(devices: &[ScheduledDevice], others: &[ScheduledDevice], pla
     }
 }
 
-/// The first place at which values are told apart at once, if there is one. Takes constant time for each device up
-/// to that place.
-fn values_apart(devices: &[ScheduledDevice], others: &[ScheduledDevice]) -> Option<usize>
-    ensures { IfSome result (λ place. slice_get devices.now place ≡ slice_get others.now place → ⊥) }
-{
-    for place in 0..devices.len() {
-        if values_differ_at(devices, others, place) {
-            return Some(place);
-        }
-    }
-    None
+/// How closely two devices are looked at, ahead of a comparison by value.
+#[derive(Clone, Copy)]
+enum Look {
+    /// At the fingerprints of their values alone.
+    Values,
+    /// At all that a quick look sees.
+    All,
 }
 
-/// The first place at which a quick look tells the devices of two lists apart, if there is one. Looks at each of
-/// them up to that place.
-fn devices_apart(devices: &[ScheduledDevice], others: &[ScheduledDevice]) -> Option<usize>
+/// Whether a look tells the devices of a place apart.
+fn look_differs(
+    look: Look,
+    devices: &[ScheduledDevice],
+    others: &[ScheduledDevice],
+    place: usize,
+) -> bool
+    ensures { IsTrue result → slice_get devices.now place ≡ slice_get others.now place → ⊥ }
+{
+    match look {
+        Look::Values => values_differ_at(devices, others, place),
+        Look::All => differ_at(devices, others, place),
+    }
+}
+
+/// The first place at which a look tells the devices of two lists apart, if there is one. Looks at each of them up to
+/// that place.
+fn first_apart(look: Look, devices: &[ScheduledDevice], others: &[ScheduledDevice]) -> Option<usize>
     ensures { IfSome result (λ place. slice_get devices.now place ≡ slice_get others.now place → ⊥) }
 {
     for place in 0..devices.len() {
-        if differ_at(devices, others, place) {
+        if look_differs(look, devices, others, place) {
             return Some(place);
         }
     }
@@ -92,9 +103,9 @@ fn devices_apart(devices: &[ScheduledDevice], others: &[ScheduledDevice]) -> Opt
 fn place_apart(devices: &[ScheduledDevice], others: &[ScheduledDevice]) -> Option<usize>
     ensures { IfSome result (λ place. slice_get devices.now place ≡ slice_get others.now place → ⊥) }
 {
-    match values_apart(devices, others) {
+    match first_apart(Look::Values, devices, others) {
         Some(place) => Some(place),
-        None => devices_apart(devices, others),
+        None => first_apart(Look::All, devices, others),
     }
 }
 

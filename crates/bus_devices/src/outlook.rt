@@ -1,7 +1,7 @@
 //! What is known of devices in a row.
 
-ghost use Rattle.std.specs.Prelude.{◌≡◌, ◌++◌, ◌∷◌, [], List};
-ghost use Rattle.bus_devices.specs.Blocks.{IsOutlookOf};
+ghost use Rattle.std.specs.Prelude.{◌≡◌, ◌↔◌, ◌++◌, ◌∷◌, [], IsTrue, List};
+ghost use Rattle.bus_devices.specs.Blocks.{IsAlarmOf, IsBestOf, IsOutlookOf};
 ghost use Rattle.can_frame.specs.Winner.{lower as lower_of};
 ghost use Rattle.co_device.specs.Device.{Device};
 
@@ -27,6 +27,17 @@ pub(crate) fn keep_lower(best: &mut Option<Contender>, other: &Option<Contender>
     }
 }
 
+/// Whether two frames are the same, or none is there.
+fn same_best(best: &Option<Contender>, other: &Option<Contender>) -> bool
+    ensures { IsTrue result ↔ (best.now ≡ other.now) }
+{
+    match (best, other) {
+        (None, None) => true,
+        (Some(best), Some(other)) => best.same(other),
+        _ => false,
+    }
+}
+
 impl Outlook {
     /// That of no device.
     pub(crate) fn none() -> Outlook
@@ -48,9 +59,19 @@ impl Outlook {
         }
     }
 
+    /// Whether the other one is the same.
+    pub(crate) fn same(&self, other: &Outlook) -> bool
+        ensures { IsTrue result ↔ (self.now ≡ other.now) }
+    {
+        self.alarm.same(&other.alarm) && same_best(&self.best, &other.best)
+    }
+
     /// Takes that of others in: it becomes that of these devices and of them.
     pub(crate) fn add(&mut self, other: &Outlook)
-        ensures { (ds es : List Device) → IsOutlookOf self.old ds → IsOutlookOf other.now es → IsOutlookOf self.new (ds ++ es) }
+        ensures alarm { (ds es : List Device) → IsAlarmOf self.old ds → IsAlarmOf other.now es
+            → IsAlarmOf self.new (ds ++ es) }
+        ensures best { (ds es : List Device) → IsBestOf self.old ds → IsBestOf other.now es
+            → IsBestOf self.new (ds ++ es) }
     {
         self.alarm = self.alarm.and(other.alarm);
         keep_lower(&mut self.best, &other.best);

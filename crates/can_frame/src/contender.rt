@@ -1,5 +1,5 @@
 //! A waiting frame as it contends for the bus.
-ghost use Rattle.std.specs.Prelude.{◌≡◌};
+ghost use Rattle.std.specs.Prelude.{◌≡◌, ◌↔◌, IsTrue};
 ghost use Rattle.can_frame.specs.Winner.{is_below as below, lower as lower_of};
 
 /// A waiting frame as it contends for the bus: what is least by identifier, then node, then place
@@ -15,6 +15,13 @@ pub struct Contender {
 }
 
 impl Contender {
+    /// Whether the other one is the same.
+    pub fn same(&self, other: &Contender) -> bool
+        ensures { IsTrue result ↔ (self.now ≡ other.now) }
+    {
+        self.id == other.id && self.node == other.node && self.place == other.place
+    }
+
     /// Whether this one is below another.
     pub fn is_below(&self, other: &Contender) -> bool
         ensures { result ≡ below self.now other.now }

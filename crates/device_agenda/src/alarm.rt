@@ -1,6 +1,6 @@
 //! When devices have to run, in two words.
 
-ghost use Rattle.std.specs.Prelude.{◌≡◌, ◌<◌, ◌++◌, List, [], IfSome, IsTrue, false};
+ghost use Rattle.std.specs.Prelude.{◌≡◌, ◌↔◌, ◌<◌, ◌++◌, List, [], IfSome, IsTrue, false};
 ghost use Rattle.co_device.specs.Device.{Device};
 ghost use Rattle.device_agenda.specs.Agenda.{IsAgendaOf, sleeps_through};
 ghost use Rattle.device_agenda.specs.Alarms.{agenda_by, due_at, is_now};
@@ -68,6 +68,13 @@ impl Alarm {
             at: self.at.min(other.at),
             groups: self.groups.and(other.groups),
         }
+    }
+
+    /// Whether the other alarm is the same.
+    pub fn same(&self, other: &Alarm) -> bool
+        ensures { IsTrue result ↔ (self.now ≡ other.now) }
+    {
+        self.at == other.at && self.groups.same(&other.groups)
     }
 
     /// The agenda that it stands for.

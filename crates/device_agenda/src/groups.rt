@@ -1,6 +1,6 @@
 //! Sets of groups of identifiers.
 
-ghost use Rattle.std.specs.Prelude.{◌≡◌, ◌<◌, ◌==◌, ◌||◌, ℕ, false};
+ghost use Rattle.std.specs.Prelude.{◌≡◌, ◌↔◌, ◌<◌, ◌==◌, ◌||◌, ℕ, IsTrue, false};
 ghost use Rattle.std.specs.Int.{bit_at};
 ghost use Rattle.device_agenda.specs.Groups.{group_of, includes};
 
@@ -45,6 +45,13 @@ impl Groups {
         Groups {
             bits: self.bits | other.bits,
         }
+    }
+
+    /// Whether the other set has the same groups.
+    pub(crate) fn same(&self, other: &Groups) -> bool
+        ensures { IsTrue result ↔ (self.now ≡ other.now) }
+    {
+        self.bits == other.bits
     }
 
     /// Whether a group is one of them.

@@ -23,7 +23,7 @@ use crate::low_bytes::LowBytes;
 use crate::reach::Reach;
 use crate::schedule::Schedule;
 use crate::stirring::stirring;
-use base::has_come;
+use base::{has_come, unshare};
 use can_frame::{Contender, Waiting};
 use co_device::Device;
 use co_dict::Dict;
@@ -265,7 +265,10 @@ impl ScheduledDevice {
         ensures frame { IfOk result (λ sent. slice_get self.old.waiting place ≡ Some sent) }
         ensures left { OnOk result (self.new ≡ record self.old { waiting = remove self.old.waiting place }) }
     {
-        let schedule = Rc::make_mut(&mut self.schedule)?;
+        unshare(&mut self.schedule)?;
+        let Some(schedule) = Rc::get_mut(&mut self.schedule) else {
+            return Err(AllocError);
+        };
         let sent = schedule.device.send(place);
         schedule.agenda.waits = schedule.device.contender().is_some();
         Ok(sent)
@@ -277,7 +280,10 @@ impl ScheduledDevice {
         ensures ran { OnOk result (GoesBy (after_power on t self.old) self.new P.seen P.asks shapes.old shapes.new) }
         ensures lasts { Lasts (P.seen shapes.old) (P.seen shapes.new) }
     {
-        let schedule = Rc::make_mut(&mut self.schedule)?;
+        unshare(&mut self.schedule)?;
+        let Some(schedule) = Rc::get_mut(&mut self.schedule) else {
+            return Err(AllocError);
+        };
         schedule.agenda = Agenda::unknown();
         schedule.device.power(on, t, shapes)
     }
@@ -290,7 +296,10 @@ impl ScheduledDevice {
         requires short { length bytes.now ≤ longest_value }
         ensures state { OnOk result (self.new ≡ after_set t (index, sub) bytes.now self.old) }
     {
-        let schedule = Rc::make_mut(&mut self.schedule)?;
+        unshare(&mut self.schedule)?;
+        let Some(schedule) = Rc::get_mut(&mut self.schedule) else {
+            return Err(AllocError);
+        };
         schedule.agenda = Agenda::unknown();
         schedule.device.set(t, index, sub, bytes)
     }
@@ -313,7 +322,10 @@ impl ScheduledDevice {
         if self.does_nothing(t, delivery) {
             return Ok(false);
         }
-        let schedule = Rc::make_mut(&mut self.schedule)?;
+        unshare(&mut self.schedule)?;
+        let Some(schedule) = Rc::get_mut(&mut self.schedule) else {
+            return Err(AllocError);
+        };
         schedule.agenda = Agenda::unknown();
         run(&mut schedule.device, t, delivery, shapes)?;
         plan(schedule);

@@ -13,24 +13,13 @@ use Rattle.std.proofs.lemmas.List.Sums.{sum_by-cons}
 use Rattle.dict_values.specs.Fingerprint.{fingerprint_of, weight, weight_at}
 use Rattle.dict_values.specs.Places.{place_cmp}
 use Rattle.dict_values.specs.Values.{Values}
-use Rattle.dict_values.proofs.PlaceLemmas.{places_exact, places_total}
+use Rattle.dict_values.proofs.PlaceLemmas.{both, part_first, part_second, places_exact, places_total}
+use Rattle.dict_values.proofs.RestoredLemmas.{none_below}
 
 abbrev adds : (ℕ × ℕ) × List ℕ → ℕ
 adds e = weight e.0 e.1
 
 -- ---- a place below all of a list has no value in it
-
-first : (a b : Bool) → T (a && b) → T a
-first true b p = tt
-first false b p = p
-
-second : (a b : Bool) → T (a && b) → T b
-second true b p = p
-second false b p = absurd p
-
-both : (a b : Bool) → T a → T b → T (a && b)
-both true b p q = q
-both false b p q = p
 
 less : (o : Ordering) → T (is_lt o) → o ≡ Less
 less Less p = refl
@@ -41,13 +30,8 @@ below_too : (k p : ℕ × ℕ) (es : List ((ℕ × ℕ) × List ℕ)) → place_
     → T (below_all place_cmp k es)
 below_too k p [] is h = tt
 below_too k p (e ∷ es) is h = both _ _
-    (subst (λ r. T (is_lt r)) (sym (places_total.trans k p e.0 is (less _ (first _ _ h)))) tt)
-    (below_too k p es is (second _ _ h))
-
-absent : (k : ℕ × ℕ) (es : List ((ℕ × ℕ) × List ℕ)) → T (below_all place_cmp k es) → find place_cmp k es ≡ None
-absent k [] h = refl
-absent k (e ∷ es) h = ap (λ r. cond (is_eq r) (Some e.1) (find place_cmp k es)) (less _ (first _ _ h))
-    ∙ absent k es (second _ _ h)
+    (subst (λ r. T (is_lt r)) (sym (places_total.trans k p e.0 is (less _ (part_first _ _ h)))) tt)
+    (below_too k p es is (part_second _ _ h))
 
 -- ---- what one more value adds, and one that is replaced takes away
 
@@ -72,12 +56,12 @@ sum_put k v (e ∷ es) h =
     → sum_by adds (by_order r ((k, v) ∷ e ∷ es) ((e.0, v) ∷ es) (e ∷ put place_cmp k v es))
     + weight_at k (cond (is_eq r) (Some e.1) (find place_cmp k es)) ≡ weight k v + sum_by adds (e ∷ es)) [
       | Less ↦ λ p. ahead _ _ _ _ (sum_by-cons adds (k, v) (e ∷ es))
-          (ap (weight_at k) (absent k es (below_too k e.0 es p (first _ _ h))))
+          (ap (weight_at k) (none_below k es (below_too k e.0 es p (part_first _ _ h))))
       | Equal ↦ λ p. subst (λ q. sum_by adds ((e.0, v) ∷ es) + weight q e.1 ≡ weight q v + sum_by adds (e ∷ es))
           (sym (places_exact k e.0 p))
           (replaced _ _ _ _ _ (sum_by-cons adds (e.0, v) es) (sum_by-cons adds e es))
       | Greater ↦ λ p. behind _ _ _ _ _ _ _ (sum_by-cons adds e (put place_cmp k v es))
-          (sum_put k v es (second _ _ h)) (sum_by-cons adds e es)
+          (sum_put k v es (part_second _ _ h)) (sum_by-cons adds e es)
     ] refl
 
 -- ---- in 64 bits

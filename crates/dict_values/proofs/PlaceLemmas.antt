@@ -24,9 +24,17 @@ places_exact = exact_pairs nat_cmp nat_cmp exact_unsigned exact_unsigned
 pub places_total : IsTotalOrder place_cmp
 places_total = then_total (on_total (λ (p : ℕ × ℕ). p.0) nat_cmp_total) (on_total (λ (p : ℕ × ℕ). p.1) nat_cmp_total)
 
-both : (a b : Bool) → T a → T b → T (a && b)
+pub both : (a b : Bool) → T a → T b → T (a && b)
 both true b p q = q
 both false b p q = p
+
+pub part_first : (a b : Bool) → T (a && b) → T a
+part_first true b h = tt
+part_first false b h = h
+
+pub part_second : (a b : Bool) → T (a && b) → T b
+part_second true b h = h
+part_second false b h = absurd h
 
 module _ {X : Type 0} where
   abbrev pub value_at : List ((ℕ × ℕ) × X) → ℕ × ℕ → Option X

@@ -13,17 +13,10 @@ use Rattle.base.specs.Ranges.{is_between}
 use Rattle.dict_values.specs.Places.{place_cmp}
 use Rattle.dict_values.specs.Restored.{is_kept, with_all, with_restored}
 use Rattle.dict_values.specs.Values.{Values}
-use Rattle.dict_values.proofs.PlaceLemmas.{places_total, places_exact, tied, written_there}
+use Rattle.dict_values.proofs.PlaceLemmas.{part_first, part_second, places_exact, places_total, tied}
+use Rattle.dict_values.proofs.PlaceLemmas.{written_there}
 
 -- ---- what is at a place
-
-part_first : (a b : Bool) → T (a && b) → T a
-part_first true b h = tt
-part_first false b h = h
-
-part_second : (a b : Bool) → T (a && b) → T b
-part_second true b h = h
-part_second false b h = absurd h
 
 less_apart : (r : Ordering) → T (is_lt r) → is_eq r ≡ false
 less_apart Less h = refl
@@ -31,7 +24,7 @@ less_apart Equal h = absurd h
 less_apart Greater h = refl
 
 -- a place below all of a list is not in it
-none_below : (x : ℕ × ℕ) (es : List ((ℕ × ℕ) × List ℕ)) → T (below_all place_cmp x es) → find place_cmp x es ≡ None
+pub none_below : (x : ℕ × ℕ) (es : List ((ℕ × ℕ) × List ℕ)) → T (below_all place_cmp x es) → find place_cmp x es ≡ None
 none_below x [] h = refl
 none_below x (e ∷ es) h = rw (less_apart (place_cmp x e.0) (part_first _ _ h)) (none_below x es (part_second _ _ h))
 

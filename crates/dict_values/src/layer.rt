@@ -8,6 +8,7 @@ ghost use Rattle.co_values.specs.Values.{longest_value};
 
 use crate::held::Held;
 use crate::table::Table;
+use base::unshare;
 use std::alloc::{AllocError, Global};
 use std::marker::Model;
 use std::rc::Rc;
@@ -42,7 +43,10 @@ fn insert_in(
     ensures before { IfOk result (λ before. before ≡ map.get table.old.value place) }
     ensures err { OnErr result (table.new.value ≡ table.old.value) }
 {
-    let table = Rc::make_mut(table)?;
+    unshare(table)?;
+    let Some(table) = Rc::get_mut(table) else {
+        return Err(AllocError);
+    };
     table.insert(place, value)
 }
 

@@ -1,22 +1,22 @@
-use Rattle.std.proofs.Common.{◌<◌, false, length, arith, rules}
+use Rattle.std.proofs.Common.{false, length, refl, subst, arith}
+use Rattle.std.proofs.lemmas.List.{take_all}
+use Rattle.bus_devices.specs.Blocks.{IsBestOf}
 use Rattle.co_device.specs.Device.{without_power}
-use Rattle.bus_devices.proofs.OutlookLemmas.{best_more, enough, outlook_at}
+use Rattle.bus_devices.proofs.OutlookLemmas.{best_more, outlook_at}
+use Rattle.bus_devices.proofs.SenderLemmas.{IsBest}
 use Rattle.bus_devices.proofs.block.best_of_each.Goals as goal
 
+pub loop-place-init : goal.loop-place-init
+loop-place-init c = λ ds long h. refl
+
 pub loop-place-preserved : goal.loop-place-preserved
-loop-place-preserved c =
-    let ds = c.args.devices.now in
+loop-place-preserved c = λ ds long h.
     let i = c.loop-place.place in
-    let none = without_power false 0 in
-    best_more c.loop-place.best _ c.keep_lower.new.best ds i none c.loop-place-test.true c.loop-place.invariant
-    (outlook_at c.args.each.now ds i _ none c.loop-place-test.true c.requires).best c.keep_lower.ensures
+    let d = without_power false 0 in
+    best_more c.loop-place.best _ c.keep_lower.new.best ds i d (omega (arith, long)) (c.loop-place.invariant ds long h)
+    (outlook_at IsBestOf c.args.each.now ds i _ d (omega (arith, long)) h) c.keep_lower.ensures
 
-pub bounds-each-place : goal.bounds-each-place
-bounds-each-place c =
-    let many = enough c.args.each.now c.args.devices.now c.requires in omega (arith, many)
-
-pub offset_bounds-each-place : goal.offset_bounds-each-place
-offset_bounds-each-place c =
-    let many = enough c.args.each.now c.args.devices.now c.requires in
-    let within : c.loop-place.place < length c.args.each.now = omega (arith, many) in
-    search rules
+pub returns : goal.returns
+returns c = λ ds long h.
+    subst (IsBest c.loop-place.best) (take_all c.loop-place.place ds (omega (arith, long)))
+    (c.loop-place.invariant ds long h)

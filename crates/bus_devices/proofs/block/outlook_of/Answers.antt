@@ -1,22 +1,19 @@
-use Rattle.std.proofs.Common.{◌<◌, false, length, arith, rules}
-use Rattle.co_device.specs.Device.{without_power}
-use Rattle.bus_devices.proofs.OutlookLemmas.{enough, one_more, outlook_at}
+use Rattle.std.proofs.Common.{refl}
+use Rattle.bus_devices.proofs.OutlookLemmas.{follows_all, follows_more}
 use Rattle.bus_devices.proofs.block.outlook_of.Goals as goal
+
+pub loop-place-init : goal.loop-place-init
+loop-place-init c = record {
+  alarm = λ ds long h. c.none-all.ensures.agenda;
+  best = λ ds long h. c.none-all.ensures.best;
+}
 
 pub loop-place-preserved : goal.loop-place-preserved
 loop-place-preserved c =
-    let ds = c.args.devices.now in
-    let i = c.loop-place.place in
-    let none = without_power false 0 in
-    one_more c.loop-place.all _ c.add.new.self ds i none c.loop-place-test.true c.add.ensures
-    c.loop-place.invariant (outlook_at c.args.each.now ds i _ none c.loop-place-test.true c.requires)
+    follows_more c.loop-place.all _ c.add.new.self c.args.each.now c.args.count c.loop-place.place _
+    c.loop-place-test.true c.add.ensures.alarm c.add.ensures.best refl c.loop-place.invariant
 
-pub bounds-each-place : goal.bounds-each-place
-bounds-each-place c =
-    let many = enough c.args.each.now c.args.devices.now c.requires in omega (arith, many)
-
-pub offset_bounds-each-place : goal.offset_bounds-each-place
-offset_bounds-each-place c =
-    let many = enough c.args.each.now c.args.devices.now c.requires in
-    let within : c.loop-place.place < length c.args.each.now = omega (arith, many) in
-    search rules
+pub returns : goal.returns
+returns c =
+    follows_all c.loop-place.all c.args.each.now c.args.count c.loop-place.place c.loop-place-test.false
+    c.loop-place.invariant

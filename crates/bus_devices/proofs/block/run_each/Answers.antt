@@ -3,6 +3,7 @@ use Rattle.std.proofs.lemmas.List.{drop-set-lt}
 use Rattle.image_parts.proofs.RecordLemmas.{lasts_in_turn}
 use Rattle.device_agenda.specs.Agenda.{at_instant}
 use Rattle.image_parts.proofs.EachLemmas.{each_state, each_noted, each_counted}
+use Rattle.bus_devices.specs.Blocks.{IsOutlookOf}
 use Rattle.bus_devices.proofs.OutlookLemmas.{deaf_at, enough, outlook_at, outlook_set, ran_deaf, same_behind}
 use Rattle.bus_devices.proofs.StillLemmas.{neither, set_as_it_was}
 use Rattle.bus_devices.proofs.block.run_each.Goals as goal
@@ -17,7 +18,7 @@ loop-place-preserved g c =
     let d = c.index-devices-place.result in
     let t = c.run_one.new.device in
     let within : i < length ss = omega arith in
-    let e = c.in_ok-had_to.ensures in
+    let e = c.in_ok-other.ensures in
     record {
       state = each_state step ss i d t within image (rw old.lasts.kept at e.ran.state) ∙ old.state;
       noted = each_noted step ss i d t within _ _ e.ran.asked.noted ∙ old.noted;
@@ -29,8 +30,8 @@ loop-place-preserved g c =
       );
       lasts = lasts_in_turn old.lasts e.lasts;
       still = λ none.
-          let both = neither c.loop-place.ran c.in_ok-had_to.had_to none in
-          set_as_it_was ss i d t (e.still both.1) ∙ old.still both.0;
+          let both = neither c.loop-place.changed c.in_ok-other.other none in
+          set_as_it_was c.loop-place.outlooks i _ c.run_one.new.outlook (e.still both.1) ∙ old.still both.0;
       outlooks = outlook_set c.loop-place.outlooks ss i c.run_one.new.outlook t e.outlook old.outlooks;
       deaf = ran_deaf c.run_one.new.low_bytes ss i t (e.own (deaf_at c.loop-place.low_bytes ss i d within old.deaf))
           (e.deaf ss old.deaf);
@@ -39,16 +40,16 @@ loop-place-preserved g c =
 
 pub offset_bounds-outlooks-place : goal.offset_bounds-outlooks-place
 offset_bounds-outlooks-place g c =
-    let many = enough c.loop-place.outlooks c.loop-place.devices c.loop-place.invariant.outlooks in
+    let many = enough IsOutlookOf c.loop-place.outlooks c.loop-place.devices c.loop-place.invariant.outlooks in
     let within : c.loop-place.place < length c.loop-place.outlooks = omega (arith, many) in
     search rules
 
 pub bounds-outlooks-place : goal.bounds-outlooks-place
 bounds-outlooks-place g c =
-    let many = enough c.loop-place.outlooks c.loop-place.devices c.loop-place.invariant.outlooks in
+    let many = enough IsOutlookOf c.loop-place.outlooks c.loop-place.devices c.loop-place.invariant.outlooks in
     omega (arith, many)
 
 pub run_one-requires-clause-outlook : goal.run_one-requires-clause-outlook
 run_one-requires-clause-outlook g c =
-    outlook_at c.loop-place.outlooks c.loop-place.devices c.loop-place.place _ _ (omega arith)
+    outlook_at IsOutlookOf c.loop-place.outlooks c.loop-place.devices c.loop-place.place _ _ (omega arith)
     c.loop-place.invariant.outlooks

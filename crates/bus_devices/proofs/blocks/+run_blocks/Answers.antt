@@ -4,12 +4,12 @@ use Rattle.image_parts.specs.Asking.{outcome}
 use Rattle.image_parts.specs.Each.{each}
 use Rattle.bus_devices.specs.Blocks.{AreBlocksOf}
 use Rattle.bus_devices.proofs.BlockLemmas.{back_is, both_blocks, both_asked, both_on_ok, both_state}
-use Rattle.bus_devices.proofs.BlockLemmas.{front_is, one_set}
+use Rattle.bus_devices.proofs.BlockLemmas.{front_is, one_set, outlooks_as}
 use Rattle.device_agenda.specs.Agenda.{at_instant}
 use Rattle.bus_devices.specs.declared.block.Block.{Block}
 use Rattle.bus_devices.proofs.PassLemmas.{all_passed, behind, first_is, first_known, idle_first, none_asked}
 use Rattle.bus_devices.proofs.PassLemmas.{none_left, passed_asked, passed_blocks, passed_state, rest_is}
-use Rattle.bus_devices.proofs.StillLemmas.{neither, passed_still}
+use Rattle.bus_devices.proofs.StillLemmas.{neither}
 use Rattle.bus_devices.proofs.blocks.+run_blocks.Goals as goal
 
 pub run_block-requires-clause-known : goal.run_block-requires-clause-known
@@ -40,7 +40,7 @@ returns-clause-blocks g t c =
     c.split_at_mut-block.ensures.front in
     let back = back_is c.first_block.result rest c.split_at_mut-block.result.1.now c.first_block.ensures
     c.split_at_mut-block.ensures.back in
-    let one = c.in_ok-ran.ensures in
+    let one = c.in_ok-changed.ensures in
     let others = c.run_blocks.ensures in
     both_on_ok c.run_blocks.result _ _ _ (λ e h.
     let state : c.run_block.new.devices ++ c.run_blocks.new.devices ≡ outcome (each step rest) image =
@@ -72,7 +72,7 @@ returns-clause-ran g t c =
     c.split_at_mut-block.ensures.front in
     let back = back_is c.first_block.result rest c.split_at_mut-block.result.1.now c.first_block.ensures
     c.split_at_mut-block.ensures.back in
-    let one = c.in_ok-ran.ensures in
+    let one = c.in_ok-changed.ensures in
     let idle = idle_first c.args.t c.args.delivery.now n (8 * n) c.args.blocks.now ds
     c.asleep-asleep.ensures.bound refl c.requires.known c.asleep-asleep.ensures.asleep in
     on_ok_weaker c.run_blocks.result (λ e.
@@ -88,25 +88,15 @@ returns-clause-ran g t c =
 
 pub returns-clause-still : goal.returns-clause-still
 returns-clause-still g t c =
-    let n = c.asleep-asleep.result in
-    let ds = c.args.devices.now in
-    let rest = c.split_at_mut-still.result.1.now in
-    let still = first_is (8 * n) c.devices_of.result ds c.split_at_mut-still.result.0.now c.devices_of.ensures
-    c.split_at_mut-still.ensures.front in
-    let woken = rest_is (8 * n) c.devices_of.result ds rest c.devices_of.ensures c.split_at_mut-still.ensures.back in
-    let front = front_is c.first_block.result rest c.split_at_mut-block.result.0.now c.first_block.ensures
-    c.split_at_mut-block.ensures.front in
-    let back = back_is c.first_block.result rest c.split_at_mut-block.result.1.now c.first_block.ensures
-    c.split_at_mut-block.ensures.back in
-    IfOk-weaker c.run_blocks.result _ _ (λ ran e none.
-    let later = e none in
-    let both = neither c.args.before c.in_ok-ran.ran later.0 in
-    let as_it_was : c.run_block.new.devices ++ c.run_blocks.new.devices ≡ rest =
-    passed_still 8 rest c.run_block.new.devices c.run_blocks.new.devices (c.in_ok-ran.ensures.still both.1 ∙ front)
-    (later.1 ∙ back) in (
+    let e = c.split_at_mut-firsts.ensures in
+    IfOk-weaker c.run_blocks.result _ _ (λ changed still none.
+    let later = still none in
+    let both = neither c.args.before c.in_ok-changed.changed later.0 in (
       both.0,
-      passed_still (8 * n) ds c.split_at_mut-still.result.0.now
-          (c.run_block.new.devices ++ c.run_blocks.new.devices) still (as_it_was ∙ woken),
+      outlooks_as c.args.blocks.now c.split_at_mut-asleep.result.0.now c.split_at_mut-asleep.result.1.now
+          c.split_at_mut-firsts.result.0.now c.split_at_mut-firsts.result.1.now c.run_blocks.new.blocks
+          c.run_block.new.block _ c.split_at_mut-asleep.ensures.value e.value e.front_len
+          (c.in_ok-changed.ensures.still both.1) later.1,
     )) c.run_blocks.ensures.still
 
 -- ---- where no block has to run

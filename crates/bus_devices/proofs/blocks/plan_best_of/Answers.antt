@@ -1,6 +1,6 @@
 use Rattle.std.proofs.Common.{◌<◌, arith, rules}
 use Rattle.bus_devices.proofs.OutlookLemmas.{best_of_one}
-use Rattle.bus_devices.proofs.SentLemmas.{as_many_now, bests_planned, own_planned}
+use Rattle.bus_devices.proofs.SentLemmas.{as_many_now, bests_planned}
 use Rattle.bus_devices.proofs.blocks.plan_best_of.Goals as goal
 
 pub bounds-block-i : goal.bounds-block-i
@@ -18,14 +18,8 @@ offset_bounds-block-i c =
     let small : c.args.i < 8 = omega (arith, within, many, few) in
     search rules
 
-pub best_of_each-block-requires : goal.best_of_each-block-requires
-best_of_each-block-requires c =
-    let d = c.index-devices-i.result in
-    own_planned c.args.i c.args.block.now c.args.devices.now c.requires.was d c.contender.result _ c.index-devices-i.is
-    (best_of_one d c.contender.result c.contender.ensures)
-
-pub returns : goal.returns
-returns c =
+pub returns-clause-block : goal.returns-clause-block
+returns-clause-block c =
     let d = c.index-devices-i.result in
     bests_planned c.args.i c.args.block.now c.args.devices.now c.requires.was d c.contender.result
     c.best_of_each-block.result _
