@@ -1,5 +1,5 @@
 -- Devices by blocks of eight.
-use Rattle.std.proofs.Common.{◌≡◌, ℕ, zero, suc, ◌+◌, ◌-◌, ◌<◌, ◌≤◌, List, [], ◌∷◌, ◌++◌, length, take, drop, get_or, refl}
+use Rattle.std.proofs.Common.{◌≡◌, ◌↔◌, ℕ, zero, suc, ◌+◌, ◌-◌, ◌<◌, ◌≤◌, List, [], ◌∷◌, ◌++◌, length, take, drop, get_or, refl}
 use Rattle.std.proofs.Common.{sym, ap, ◌∙◌, append_assoc, subst, arith}
 use Rattle.std.specs.Prelude.{min, OnOk, Result, Ok, Err}
 use Rattle.std.proofs.Math.ListN.{set}
@@ -10,6 +10,7 @@ use Rattle.image_parts.proofs.RecordLemmas.{asked_in_turn}
 use Rattle.image_parts.specs.Asking.{Asking, Seen, outcome, reads}
 use Rattle.image_parts.specs.Record.{IsAsked}
 use Rattle.bus_devices.specs.Blocks.{AreBlocksOf, AreEightsOf, IsBlockOf, outlooks_of}
+use Rattle.bus_devices.proofs.StillLemmas.{same_behind_front}
 use Rattle.bus_devices.specs.declared.block.Block.{Block}
 use Rattle.bus_devices.specs.declared.outlook.Outlook.{Outlook}
 use Rattle.image_parts.specs.Each.{each}
@@ -185,19 +186,25 @@ one_set [] a e = absurd (omega (arith, e))
 one_set (b ∷ []) a e = refl
 one_set (b ∷ c ∷ blocks) a e = absurd (omega (arith, e))
 
--- the same is known of blocks of which one ran, and of which the same is known then, and of those behind it
+-- the same is known of blocks of which one ran where the same is known of it then, and of those behind it, and only
+-- there
 pub outlooks_as : (blocks asleep awake firsts others new : List Block) (a d : Block) → blocks ≡ asleep ++ awake
-    → awake ≡ firsts ++ others → length firsts ≡ 1 → a.outlook ≡ (get_or firsts 0 d).outlook
-    → outlooks_of new ≡ outlooks_of others → outlooks_of (asleep ++ (set firsts 0 a ++ new)) ≡ outlooks_of blocks
-outlooks_as blocks asleep awake [] others new a d whole e one same rest = absurd (omega (arith, one))
-outlooks_as blocks asleep awake (b ∷ []) others new a d whole e one same rest =
+    → awake ≡ firsts ++ others → length firsts ≡ 1
+    → ((a.outlook ≡ (get_or firsts 0 d).outlook) × (outlooks_of new ≡ outlooks_of others))
+    ↔ (outlooks_of (asleep ++ (set firsts 0 a ++ new)) ≡ outlooks_of blocks)
+outlooks_as blocks asleep awake [] others new a d whole e one = absurd (omega (arith, one))
+outlooks_as blocks asleep awake (b ∷ []) others new a d whole e one =
     let outlook : Block → Outlook = λ x. x.outlook in
-    map-append outlook asleep (a ∷ new)
-    ∙ ap (λ (xs : List Outlook). outlooks_of asleep ++ xs)
-    (ap (λ (o : Outlook). o ∷ outlooks_of new) same ∙ ap (λ (xs : List Outlook). b.outlook ∷ xs) rest)
-    ∙ sym (map-append outlook asleep (b ∷ others))
-    ∙ ap outlooks_of (ap (λ (xs : List Block). asleep ++ xs) (sym e) ∙ sym whole)
-outlooks_as blocks asleep awake (b ∷ c ∷ firsts) others new a d whole e one same rest = absurd (omega (arith, one))
+    let before : blocks ≡ asleep ++ (b ∷ others) = whole ∙ ap (λ (xs : List Block). asleep ++ xs) e in (
+      (λ same.
+          map-append outlook asleep (a ∷ new)
+          ∙ ap (λ (xs : List Outlook). outlooks_of asleep ++ xs)
+          (ap (λ (o : Outlook). o ∷ outlooks_of new) same.0 ∙ ap (λ (xs : List Outlook). b.outlook ∷ xs) same.1)
+          ∙ sym (map-append outlook asleep (b ∷ others))
+          ∙ ap outlooks_of (sym before)),
+      (λ same. same_behind_front outlook asleep new others a b (same ∙ ap outlooks_of before)),
+    )
+outlooks_as blocks asleep awake (b ∷ c ∷ firsts) others new a d whole e one = absurd (omega (arith, one))
 
 -- ---- where both went well
 

@@ -7,7 +7,6 @@ use Rattle.bus_devices.specs.Blocks.{FollowsFromEach, IsAlarmOf, IsBestOf, IsBlo
 use Rattle.bus_devices.specs.declared.block.Block.{Block}
 use Rattle.bus_devices.specs.declared.outlook.Outlook.{Outlook}
 use Rattle.bus_devices.proofs.SenderLemmas.{IsBest, best_of_both}
-use Rattle.bus_devices.proofs.SentLemmas.{drop_later}
 use Rattle.can_frame.specs.Winner.{contenders_of, lower, IsWinner}
 use Rattle.can_frame.specs.declared.contender.Contender.{Contender}
 use Rattle.co_device.specs.Device.{Device, without_power}
@@ -189,9 +188,3 @@ pub ran_deaf : (bytes : LowBytes) (ds : List Device) (i : ℕ) (d : Device) → 
 ran_deaf bytes [] i d h all = tt
 ran_deaf bytes (x ∷ ds) zero d h all = (h, all.1)
 ran_deaf bytes (x ∷ ds) (suc i) d h all = (all.0, ran_deaf bytes ds i d h all.1)
-
--- ---- devices of which those from a place on are as they were
-
-module _ (ds old : List Device) (i : ℕ) (e : drop i ds ≡ drop i old) where
-  pub same_behind : drop (i + 1) ds ≡ drop (i + 1) old
-  same_behind = drop_later i 1 (i + 1) ds (omega arith) ∙ ap (drop 1) e ∙ sym (drop_later i 1 (i + 1) old (omega arith))

@@ -3,9 +3,9 @@ use Rattle.std.proofs.Common.{◌≡◌, ℕ, zero, suc, ◌+◌, ◌*◌, ◌/�
 use Rattle.std.proofs.Common.{◌-◌, ◌%◌, false, Option, refl, sym, ap, ◌∙◌, subst, arith}
 use Rattle.std.specs.Prelude.{flat_map, min, remove}
 use Rattle.std.specs.List.{AllByRecursion}
-use Rattle.std.proofs.lemmas.List.{drop-set-add, drop-set-lt, get_or-drop, length-drop, length-set, length-take, take-set-le}
+use Rattle.std.proofs.lemmas.List.{drop-drop, drop-set-add, drop-set-lt, get_or-drop, length-drop, length-set, length-take, take-set-le}
 use Rattle.std.proofs.lemmas.List.{take_at}
-use Rattle.std.proofs.Math.Seq.{drop-nil, take-set-lt}
+use Rattle.std.proofs.Math.Seq.{take-set-lt}
 use Rattle.base.specs.Moments.{earliest}
 use Rattle.bus_devices.specs.Blocks.{AreBlocksOf, AreEachOf, AreOutlooksOf, IsAlarmOf, IsBestOf, IsBlockOf, IsDueAsBefore}
 use Rattle.bus_devices.specs.Blocks.{WasKnown, alarms_of}
@@ -171,10 +171,7 @@ get_taken (suc n) (x ∷ ds) zero d near = refl
 get_taken (suc n) (x ∷ ds) (suc r) d near = get_taken n ds r d (omega (arith, near))
 
 pub drop_later : (n m k : ℕ) (ds : List Device) → k ≡ n + m → drop k ds ≡ drop m (drop n ds)
-drop_later zero m k ds e = ap (λ (i : ℕ). drop i ds) (omega (arith, e))
-drop_later (suc n) m zero ds e = absurd (omega (arith, e))
-drop_later (suc n) m (suc k) [] e = sym (drop-nil {A = Device} m)
-drop_later (suc n) m (suc k) (x ∷ ds) e = drop_later n m k ds (omega (arith, e))
+drop_later n m k ds e = ap (λ (i : ℕ). drop i ds) e ∙ sym (drop-drop m n ds)
 
 -- the block of a place anew, where a device of it is another
 module _ (now : Device) (anew : Block) where

@@ -1,6 +1,6 @@
 //! What a few devices of a bus do, and what is known of them.
 
-ghost use Rattle.std.specs.Prelude.{◌≡◌, ◌<◌, ◌≤◌, ◌∷◌, [], List, false, length, option_copied, IfOk, IfSome, IsTrue, OnOk};
+ghost use Rattle.std.specs.Prelude.{◌≡◌, ◌↔◌, ◌<◌, ◌≤◌, ◌∷◌, [], List, false, length, option_copied, IfOk, IfSome, IsTrue, OnOk};
 ghost use Rattle.image_parts.specs.Record.{GoesBy, Lasts};
 ghost use Rattle.bus_devices.specs.Blocks.{AreEachOf, AreOutlooksOf, FollowsFromEach, IsBestOf, IsBlockOf, IsOutlookOf};
 ghost use Rattle.bus_devices.specs.Numbers.{device_of as first_of, values_of as first_values_of};
@@ -105,7 +105,7 @@ fn run_one<P: Shapes>(
     ensures ran { OnOk result (GoesBy (at_instant t delivery.now device.old) device.new
         P.seen P.asks shapes.old shapes.new) }
     ensures lasts { Lasts (P.seen shapes.old) (P.seen shapes.new) }
-    ensures still { IfOk result (λ changed. changed ≡ false → outlook.new ≡ outlook.old) }
+    ensures still { IfOk result (λ changed. changed ≡ false ↔ (outlook.new ≡ outlook.old)) }
 {
     if outlook.alarm.sleeps_through(t, delivery) {
         return Ok(false);
@@ -138,7 +138,7 @@ pub(crate) fn run_each<P: Shapes>(
     ensures ran { OnOk result (GoesBy (each (at_instant t delivery.now) devices.old) devices.new
         P.seen P.asks shapes.old shapes.new) }
     ensures lasts { Lasts (P.seen shapes.old) (P.seen shapes.new) }
-    ensures still { IfOk result (λ changed. changed ≡ false → outlooks.new ≡ outlooks.old) }
+    ensures still { IfOk result (λ changed. changed ≡ false ↔ (outlooks.new ≡ outlooks.old)) }
 {
     let mut changed = false;
     for (place, device) in devices.iter_mut().enumerate() {

@@ -1,6 +1,6 @@
 //! Devices by blocks of eight.
 
-ghost use Rattle.std.specs.Prelude.{◌≡◌, ◌<◌, ◌≤◌, ◌*◌, false, true, List, length, min, take, IfOk, IfSome, OnOk};
+ghost use Rattle.std.specs.Prelude.{◌≡◌, ◌↔◌, ◌<◌, ◌≤◌, ◌*◌, false, true, List, length, min, take, IfOk, IfSome, OnOk};
 ghost use Rattle.std.specs.List.{AllByRecursion};
 ghost use Rattle.image_parts.specs.Record.{GoesBy, Lasts};
 ghost use Rattle.bus_devices.specs.Blocks.{AreBlocksOf, AreEightsOf, IsBestOf, IsBlockOf, WasKnown, alarms_of, block_sleeps};
@@ -56,7 +56,7 @@ fn run_block<P: Shapes>(
     ensures ran { OnOk result (GoesBy (each (at_instant t delivery.now) devices.old) devices.new
         P.seen P.asks shapes.old shapes.new) }
     ensures lasts { Lasts (P.seen shapes.old) (P.seen shapes.new) }
-    ensures still { IfOk result (λ changed. changed ≡ false → block.new.outlook ≡ block.old.outlook) }
+    ensures still { IfOk result (λ changed. changed ≡ false ↔ (block.new.outlook ≡ block.old.outlook)) }
 {
     let changed = run_each(
         devices,
@@ -118,8 +118,8 @@ pub(crate) fn run_blocks<P: Shapes>(
     ensures ran { OnOk result (GoesBy (each (at_instant t delivery.now) devices.old) devices.new
         P.seen P.asks shapes.old shapes.new) }
     ensures lasts { Lasts (P.seen shapes.old) (P.seen shapes.new) }
-    ensures still { IfOk result (λ changed. changed ≡ false → (before ≡ false)
-        × (outlooks_of blocks.new ≡ outlooks_of blocks.old)) }
+    ensures still { IfOk result (λ changed. changed ≡ false ↔ ((before ≡ false)
+        × (outlooks_of blocks.new ≡ outlooks_of blocks.old))) }
 {
     let asleep = asleep(blocks, t, delivery);
     let (_asleep, awake) = blocks.split_at_mut(asleep);

@@ -25,7 +25,8 @@ fn all_of(blocks: &[Block]) -> Outlook
     all
 }
 
-/// What is known of all devices where this was, until another thing is known of a block: that is said.
+/// What is known of all devices, where this was known ahead of an instant: it is put together anew where another thing is
+/// known of a block since.
 fn all_now(all: Outlook, blocks: &[Block], changed: bool) -> Outlook
     requires { changed ≡ false → FollowsFromBlocks all blocks.now }
     ensures { FollowsFromBlocks result blocks.now }

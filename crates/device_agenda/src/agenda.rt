@@ -1,8 +1,10 @@
 //! When devices have to run.
 
-ghost use Rattle.std.specs.Prelude.{◌≡◌, ◌<◌, ◌++◌, List, [], true, false, IfSome, IsTrue};
+ghost use Rattle.std.specs.Prelude.{◌≡◌, ◌<◌, ◌++◌, ◌||◌, ℕ, List, [], None, true, false, IfSome, IsTrue};
+ghost use Rattle.base.specs.Moments.{earlier as earlier_of};
 ghost use Rattle.co_device.specs.Device.{Device};
 ghost use Rattle.device_agenda.specs.Agenda.{IsAgendaOf, sleeps_through};
+ghost use Rattle.device_agenda.specs.Groups.{includes};
 ghost use Rattle.device_agenda.specs.LowBytes.{sleeps_on};
 
 use crate::delivery::Delivery;
@@ -27,7 +29,10 @@ pub struct Agenda {
 impl Agenda {
     /// That of no device.
     pub fn none() -> Agenda
-        ensures { IsAgendaOf result [] }
+        ensures devices { IsAgendaOf result [] }
+        ensures rests { (result.awake ≡ false) × (result.due ≡ None) }
+        ensures silent { result.waits ≡ false }
+        ensures groups { (id : ℕ) → includes result.groups id ≡ false }
     {
         Agenda {
             awake: false,
@@ -52,7 +57,12 @@ impl Agenda {
 
     /// That of these devices and others.
     pub fn and(self, other: Agenda) -> Agenda
-        ensures { (ds es : List Device) → IsAgendaOf self ds → IsAgendaOf other es → IsAgendaOf result (ds ++ es) }
+        ensures devices { (ds es : List Device) → IsAgendaOf self ds → IsAgendaOf other es
+            → IsAgendaOf result (ds ++ es) }
+        ensures awake { result.awake ≡ self.awake || other.awake }
+        ensures due { result.due ≡ earlier_of self.due other.due }
+        ensures waits { result.waits ≡ self.waits || other.waits }
+        ensures groups { (id : ℕ) → includes result.groups id ≡ includes self.groups id || includes other.groups id }
     {
         Agenda {
             awake: self.awake | other.awake,

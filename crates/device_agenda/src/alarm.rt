@@ -1,9 +1,10 @@
 //! When devices have to run, in two words.
 
-ghost use Rattle.std.specs.Prelude.{◌≡◌, ◌↔◌, ◌<◌, ◌++◌, List, [], IfSome, IsTrue, false};
+ghost use Rattle.std.specs.Prelude.{◌≡◌, ◌↔◌, ◌<◌, ◌++◌, ◌||◌, ℕ, List, [], IfSome, IsTrue, false, min};
 ghost use Rattle.co_device.specs.Device.{Device};
 ghost use Rattle.device_agenda.specs.Agenda.{IsAgendaOf, sleeps_through};
-ghost use Rattle.device_agenda.specs.Alarms.{agenda_by, due_at, is_now};
+ghost use Rattle.device_agenda.specs.Alarms.{agenda_by, alarm_by, due_at, is_now, never};
+ghost use Rattle.device_agenda.specs.Groups.{includes};
 ghost use Rattle.device_agenda.specs.LowBytes.{sleeps_on};
 
 use crate::agenda::Agenda;
@@ -30,6 +31,7 @@ pub struct Alarm {
 fn moment_of(agenda: &Agenda) -> u64
     ensures awake { is_now result ≡ false → agenda.now.awake ≡ false }
     ensures due { is_now result ≡ false → due_at result ≡ agenda.now.due }
+    ensures moment { result ≡ (alarm_by agenda.now).at }
 {
     if agenda.awake {
         return 0;
@@ -44,14 +46,17 @@ fn moment_of(agenda: &Agenda) -> u64
 impl Alarm {
     /// That of no device.
     pub fn none() -> Alarm
-        ensures { IsAgendaOf (agenda_by result) [] }
+        ensures devices { IsAgendaOf (agenda_by result) [] }
+        ensures never { result.at ≡ never }
+        ensures groups { (id : ℕ) → includes result.groups id ≡ false }
     {
         Alarm::of(&Agenda::none())
     }
 
     /// That of the devices of an agenda.
     pub fn of(agenda: &Agenda) -> Alarm
-        ensures { (ds : List Device) → IsAgendaOf agenda.now ds → IsAgendaOf (agenda_by result) ds }
+        ensures devices { (ds : List Device) → IsAgendaOf agenda.now ds → IsAgendaOf (agenda_by result) ds }
+        ensures alarm { result ≡ alarm_by agenda.now }
     {
         Alarm {
             at: moment_of(agenda),
@@ -61,8 +66,10 @@ impl Alarm {
 
     /// That of these devices and others.
     pub fn and(self, other: Alarm) -> Alarm
-        ensures { (ds es : List Device) → IsAgendaOf (agenda_by self) ds → IsAgendaOf (agenda_by other) es
+        ensures devices { (ds es : List Device) → IsAgendaOf (agenda_by self) ds → IsAgendaOf (agenda_by other) es
             → IsAgendaOf (agenda_by result) (ds ++ es) }
+        ensures at { result.at ≡ min self.at other.at }
+        ensures groups { (id : ℕ) → includes result.groups id ≡ includes self.groups id || includes other.groups id }
     {
         Alarm {
             at: self.at.min(other.at),

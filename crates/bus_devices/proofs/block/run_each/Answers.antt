@@ -4,8 +4,8 @@ use Rattle.image_parts.proofs.RecordLemmas.{lasts_in_turn}
 use Rattle.device_agenda.specs.Agenda.{at_instant}
 use Rattle.image_parts.proofs.EachLemmas.{each_state, each_noted, each_counted}
 use Rattle.bus_devices.specs.Blocks.{IsOutlookOf}
-use Rattle.bus_devices.proofs.OutlookLemmas.{deaf_at, enough, outlook_at, outlook_set, ran_deaf, same_behind}
-use Rattle.bus_devices.proofs.StillLemmas.{neither, set_as_it_was}
+use Rattle.bus_devices.proofs.OutlookLemmas.{deaf_at, enough, outlook_at, outlook_set, ran_deaf}
+use Rattle.bus_devices.proofs.StillLemmas.{behind_as, none_changed}
 use Rattle.bus_devices.proofs.block.run_each.Goals as goal
 
 pub loop-place-preserved : goal.loop-place-preserved
@@ -18,6 +18,8 @@ loop-place-preserved g c =
     let d = c.index-devices-place.result in
     let t = c.run_one.new.device in
     let within : i < length ss = omega arith in
+    let many = enough IsOutlookOf c.loop-place.outlooks ss old.outlooks in
+    let room : i < length c.loop-place.outlooks = omega (arith, many) in
     let e = c.in_ok-other.ensures in
     record {
       state = each_state step ss i d t within image (rw old.lasts.kept at e.ran.state) ∙ old.state;
@@ -29,13 +31,14 @@ loop-place-preserved g c =
         old.counted,
       );
       lasts = lasts_in_turn old.lasts e.lasts;
-      still = λ none.
-          let both = neither c.loop-place.changed c.in_ok-other.other none in
-          set_as_it_was c.loop-place.outlooks i _ c.run_one.new.outlook (e.still both.1) ∙ old.still both.0;
+      still = none_changed c.args.outlooks.now c.loop-place.outlooks i _ c.run_one.new.outlook c.loop-place.changed
+          c.in_ok-other.other room old.ahead old.still e.still;
+      ahead = drop-set-lt (i + 1) c.loop-place.outlooks i c.run_one.new.outlook (omega arith)
+          ∙ behind_as c.args.outlooks.now c.loop-place.outlooks i old.ahead;
       outlooks = outlook_set c.loop-place.outlooks ss i c.run_one.new.outlook t e.outlook old.outlooks;
       deaf = ran_deaf c.run_one.new.low_bytes ss i t (e.own (deaf_at c.loop-place.low_bytes ss i d within old.deaf))
           (e.deaf ss old.deaf);
-      behind = drop-set-lt (i + 1) ss i t (omega arith) ∙ same_behind ss c.args.devices.now i old.behind;
+      behind = drop-set-lt (i + 1) ss i t (omega arith) ∙ behind_as c.args.devices.now ss i old.behind;
     }
 
 pub offset_bounds-outlooks-place : goal.offset_bounds-outlooks-place

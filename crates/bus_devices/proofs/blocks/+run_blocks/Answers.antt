@@ -9,7 +9,7 @@ use Rattle.device_agenda.specs.Agenda.{at_instant}
 use Rattle.bus_devices.specs.declared.block.Block.{Block}
 use Rattle.bus_devices.proofs.PassLemmas.{all_passed, behind, first_is, first_known, idle_first, none_asked}
 use Rattle.bus_devices.proofs.PassLemmas.{none_left, passed_asked, passed_blocks, passed_state, rest_is}
-use Rattle.bus_devices.proofs.StillLemmas.{neither}
+use Rattle.bus_devices.proofs.StillLemmas.{either_changed}
 use Rattle.bus_devices.proofs.blocks.+run_blocks.Goals as goal
 
 pub run_block-requires-clause-known : goal.run_block-requires-clause-known
@@ -89,17 +89,17 @@ returns-clause-ran g t c =
 pub returns-clause-still : goal.returns-clause-still
 returns-clause-still g t c =
     let e = c.split_at_mut-firsts.ensures in
-    IfOk-weaker c.run_blocks.result _ _ (λ changed still none.
-    let later = still none in
-    let both = neither c.args.before c.in_ok-changed.changed later.0 in (
-      both.0,
-      outlooks_as c.args.blocks.now c.split_at_mut-asleep.result.0.now c.split_at_mut-asleep.result.1.now
-          c.split_at_mut-firsts.result.0.now c.split_at_mut-firsts.result.1.now c.run_blocks.new.blocks
-          c.run_block.new.block _ c.split_at_mut-asleep.ensures.value e.value e.front_len
-          (c.in_ok-changed.ensures.still both.1) later.1,
-    )) c.run_blocks.ensures.still
+    let alike = outlooks_as c.args.blocks.now c.split_at_mut-asleep.result.0.now c.split_at_mut-asleep.result.1.now
+    c.split_at_mut-firsts.result.0.now c.split_at_mut-firsts.result.1.now c.run_blocks.new.blocks c.run_block.new.block
+    _ c.split_at_mut-asleep.ensures.value e.value e.front_len in
+    IfOk-weaker c.run_blocks.result _ _ (λ changed later.
+    either_changed c.args.before c.in_ok-changed.changed _ _ _ _ c.in_ok-changed.ensures.still later alike)
+    c.run_blocks.ensures.still
 
 -- ---- where no block has to run
+
+pub returns-then-is_empty-clause-still : goal.returns-then-is_empty-clause-still
+returns-then-is_empty-clause-still g t c = ((λ none. (none, search rules)), (λ both. both.0))
 
 pub returns-then-is_empty-clause-ran : goal.returns-then-is_empty-clause-ran
 returns-then-is_empty-clause-ran g t c =
