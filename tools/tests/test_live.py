@@ -10,6 +10,7 @@ import subprocess
 import sys
 import threading
 from types import SimpleNamespace
+from unittest import mock
 
 from cobench_tools import meaning, replies, trace
 from cobench_tools.bundle import content_text
@@ -289,12 +290,18 @@ def test_odd_files_are_told_and_gone_on_from():
 
 def test_an_editor_that_writes_in_two_steps_is_waited_for():
     with Scene() as scene:
-        text = scene.text().replace(b"0 100", b"0 50")
-        put("network.txt", text[:150])
-        late = threading.Timer(watch.SETTLED / 3, put, ("network.txt", text))
-        late.start()
-        scene.look()
-        late.join()
+        rest = [scene.text().replace(b"0 100", b"0 50")]
+        put("network.txt", rest[0][:150])
+        now = [os.stat("network.txt").st_mtime]
+
+        def sleep(seconds):
+            """The clock of `watch` goes on in its waits alone, and the second step comes in the first of them."""
+            now[0] += seconds
+            if rest:
+                now[0] = os.stat(put("network.txt", rest.pop())).st_mtime
+
+        with mock.patch.object(watch, "time", SimpleNamespace(time=lambda: now[0], sleep=sleep)):
+            scene.look()
         assert scene.ledger()["edits"] == ["param 5 1017 00 50"], scene.ledger()
 
 
