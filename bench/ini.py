@@ -10,12 +10,18 @@ has it read texts of 1 MiB (1,048,576 bytes, the longest that is read) and of a 
     name     pairs of 3 bytes in one section, whose name has 4,000 bytes
     eds      60,000 lines (896,248 bytes), as vendors write them: 7,500 objects and sub-objects of six
              keys each, an empty line after each, lines ended by CR and LF
+    letters  65,536 pairs of one section, whose keys are six letters or digits (524,298 bytes)
+    chosen   the same with keys that the hash of `indexmap`, where it starts from the number that it
+             takes by itself, puts into a 64th of its table
 
 Asserts for each that the large text takes under a second (`eds` at most 25 ms) and at most 64 MiB,
-and that it takes at most 12 times as long as the small one (but for `pairs`, whose memory outgrows the
-caches that other work on the machine uses too: its ratio is printed alone). Times are those of the
+that it takes at most 12 times as long as the small one (but for `pairs`, whose memory outgrows the
+caches that other work on the machine uses too: its ratio is printed alone), and that `chosen` takes at
+most three times as long as `letters`. Keys can't be chosen so against the hash of today: it starts from
+a number that the whole text makes, these keys with it. Times are those of the
 processor, so that other work on the machine disturbs them little. Run it from anywhere: bench/ini.py
 """
+import itertools
 import os
 import subprocess
 import sys
@@ -32,8 +38,11 @@ MEMORY = 64 << 20
 SECONDS = 1
 EDS_SECONDS = 0.025
 RATIO = 12
+CHOSEN_RATIO = 3
 RUNS = 15
 ROUNDS = 8
+FIRST_STATE = 0x243F6A8885A308D3
+MULTIPLIER = 0x9E3779B97F4A7C15
 
 
 def one(size):
@@ -71,8 +80,40 @@ def eds(size):
     return b"".join(line + b"\r\n" for line in lines)
 
 
-SHAPES = [one, own, pairs, name, eds]
-JUDGED_BY_RATIO = [one, own, name, eds]
+def folded(a, b):
+    """The halves of a product of 128 bits, joined by exclusive or."""
+    product = a * b
+    return product & (1 << 64) - 1 ^ product >> 64
+
+
+def hashed_keys():
+    """Each key of six letters or digits, with the hash that `indexmap` gives it by itself."""
+    keys = [(b"", folded(FIRST_STATE ^ 6, MULTIPLIER ^ 16))]
+    for _ in range(6):
+        keys = ((key + bytes([byte]), folded(state ^ byte * 0x010101, MULTIPLIER ^ 2))
+                for key, state in keys for byte in b"abcdefghijklmnopqrstuvwxyz0123456789")
+    return keys
+
+
+def is_chosen(state):
+    """Whether this hash puts a key into the first 64th of a table for 65,536 keys."""
+    return (state ^ state >> 32) >> 7 & 63 == 0
+
+
+def section_of(keys, count):
+    return b"[section]\n" + b"".join(key + b"=\n" for key, _ in itertools.islice(keys, count))
+
+
+def letters(size):
+    return section_of(hashed_keys(), size // 16)
+
+
+def chosen(size):
+    return section_of((pair for pair in hashed_keys() if is_chosen(pair[1])), size // 16)
+
+
+SHAPES = [one, own, pairs, name, eds, letters, chosen]
+JUDGED_BY_RATIO = [one, own, name, eds, letters, chosen]
 
 
 def run(text):
@@ -105,20 +146,28 @@ def times(large, small, rounds):
     return slow, fast
 
 
+def limit(shape, seconds):
+    """The most seconds that a large text may take, where the texts before it took these."""
+    if shape is chosen:
+        return CHOSEN_RATIO * seconds[letters]
+    return EDS_SECONDS if shape is eds else SECONDS
+
+
 def main():
     subprocess.run(["rt", "run"], cwd=CRATE, stdin=subprocess.DEVNULL, check=True,
                    stdout=subprocess.DEVNULL, stderr=subprocess.DEVNULL)
     failed = False
-    print("shape  lines   sections, warnings  ms large  ms small  ratio  MiB large")
+    seconds = {}
+    print("shape    lines   sections, warnings  ms large  ms small  ratio  MiB large")
     for shape in SHAPES:
         large, small = shape(LARGE)[:LARGE], shape(SMALL)[:SMALL]
         is_judged = shape in JUDGED_BY_RATIO
         slow, fast = times(large, small, ROUNDS if is_judged else 1)
         _, memory, answer = run(large)
-        limit = EDS_SECONDS if shape is eds else SECONDS
-        good = slow <= limit and memory <= MEMORY and (slow <= RATIO * fast or not is_judged)
+        seconds[shape] = slow
+        good = slow <= limit(shape, seconds) and memory <= MEMORY and (slow <= RATIO * fast or not is_judged)
         failed = failed or not good
-        print(f"{shape.__name__:6} {large.count(10):6}  {answer:>18}  {slow * 1e3:8.2f}  {fast * 1e3:8.2f}"
+        print(f"{shape.__name__:8} {large.count(10):6}  {answer:>18}  {slow * 1e3:8.2f}  {fast * 1e3:8.2f}"
               f"  {slow / fast:5.1f}  {memory / (1 << 20):9.1f}{'' if good else '  FAILED'}")
     sys.exit(1 if failed else 0)
 

@@ -1,11 +1,13 @@
 """Builds the wheel of cobtool for pip and pipx, with the standard library alone: no network and no setuptools is needed.
 
 pyproject.toml names this module as its build backend (PEP 517). The wheel has the package, the program `cobtool`, its
-manual page, and its completion for bash.
+manual page, and its completion for bash; the source archive has what the wheel is built of.
 """
 import base64
 import hashlib
+import io
 import os
+import tarfile
 import zipfile
 
 from cobench_tools import VERSION, guide
@@ -59,6 +61,21 @@ def build_wheel(wheel_directory, config_settings=None, metadata_directory=None):
     return name
 
 
+def source_files():
+    """The files of the source archive, of which the wheel can be built."""
+    files = {"PKG-INFO": METADATA.encode(), **package_files()}
+    for name in ("pyproject.toml", "building.py", "README.md", "cobtool"):
+        with open(os.path.join(HERE, name), "rb") as file:
+            files[name] = file.read()
+    return files
+
+
 def build_sdist(sdist_directory, config_settings=None):
-    """The checkout is the source: no other archive of it is made."""
-    raise NotImplementedError("cobtool has no source archive beside its repository")
+    """Writes the source archive into a folder, and gives its name."""
+    name = f"{NAME}.tar.gz"
+    with tarfile.open(os.path.join(sdist_directory, name), "w:gz", format=tarfile.PAX_FORMAT) as archive:
+        for path, data in source_files().items():
+            about = tarfile.TarInfo(f"{NAME}/{path}")
+            about.size, about.mode = len(data), 0o755 if path == "cobtool" else 0o644
+            archive.addfile(about, io.BytesIO(data))
+    return name

@@ -6,8 +6,8 @@ from . import tool
 
 FOLDER = os.path.join(os.path.dirname(os.path.abspath(__file__)), "pages")
 TIMELINE_SCRIPTS = ("elements.js", "timeline_trace.js", "timeline_scale.js", "timeline_lanes.js", "timeline_marks.js",
-                    "timeline_flags.js", "timeline_paint.js", "timeline_tips.js", "timeline_gestures.js",
-                    "timeline_toolbar.js", "timeline.js")
+                    "timeline_flags.js", "timeline_paint.js", "timeline_signals.js", "timeline_cursors.js", "timeline_tips.js",
+                    "timeline_gestures.js", "timeline_toolbar.js", "timeline.js")
 TIMELINE_STYLES = ("design.css", "timeline.css")
 LIVE_SCRIPTS = TIMELINE_SCRIPTS + ("live_items.js", "live_tabs.js", "live_tables.js", "live_wrong.js", "live_nodes.js",
                                    "live_run.js", "live_ledger.js", "live.js")
@@ -43,4 +43,4 @@ def live_page(content):
 
 def timeline_page(content):
     """The page of a timeline alone."""
-    return page("timeline.html", TIMELINE_STYLES, TIMELINE_SCRIPTS + ("timeline_page.js",), content)
+    return page("timeline.html", TIMELINE_STYLES, TIMELINE_SCRIPTS + ("timeline_print.js", "timeline_page.js"), content)

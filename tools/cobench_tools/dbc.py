@@ -5,8 +5,9 @@ little-endian signal are counted as those of a CANopen frame.
 """
 import re
 
-from . import matrix, values
+from . import matrix, receiver_names, values
 from .device import SIGNED, object_name
+from .safe_text import dbc_text
 
 LONGEST_NAME = 32
 NOBODY = "Vector__XXX"
@@ -46,21 +47,20 @@ class Names:
         return name
 
 
-def quoted(text):
-    return '"' + re.sub(r'["\\]', "'", text) + '"'
-
-
 class Dbc:
-    """The lines of a DBC: of its messages, its comments and its attributes."""
+    """The lines of a DBC: of its messages, its comments and its attributes.
 
-    def __init__(self, network):
-        self.network = network
+    `by_receiver` names a signal as its receivers do, where the sender's name says nothing.
+    """
+
+    def __init__(self, network, by_receiver=False):
+        self.network, self.by_receiver = network, by_receiver
         nodes = Names()
         nodes.taken.add(NOBODY)
         self.nodes = {number: nodes.of(network.name(number)) for number in sorted(network.nodes)}
         self.messages, self.comments, self.attributes = [], [], []
         for number, name in self.nodes.items():
-            self.comments.append(f"CM_ BU_ {name} {quoted(f'node {number} {network.name(number)}')};")
+            self.comments.append(f"CM_ BU_ {name} {dbc_text(f'node {number} {network.name(number)}')};")
             self.attributes.append(f'BA_ "NodeNumber" BU_ {name} {number};')
         self._add_messages()
 
@@ -79,7 +79,7 @@ class Dbc:
         name = names.of(self.network.message_of(tpdo) or f"{self.network.name(tpdo.node)}_TPDO{tpdo.number}")
         self.messages.append(f"BO_ {tpdo.identifier} {name}: {tpdo.size} {sender}")
         about = f"TPDO {tpdo.number} of {self.network.name(tpdo.node)}, sent {matrix.when(tpdo)}"
-        self.comments.append(f"CM_ BO_ {tpdo.identifier} {quoted(about)};")
+        self.comments.append(f"CM_ BO_ {tpdo.identifier} {dbc_text(about)};")
         if cycle_time(self.network, tpdo):
             self.attributes.append(f'BA_ "GenMsgCycleTime" BO_ {tpdo.identifier} {cycle_time(self.network, tpdo)};')
         signals = Names()
@@ -88,14 +88,15 @@ class Dbc:
         self.messages.append("")
 
     def _add_signal(self, names, tpdo, part):
-        name = names.of(part.entry.name or f"entry {object_name(part.key)}")
+        beside = receiver_names.of_part(self.network, tpdo, part) if self.by_receiver else ""
+        name = names.of(beside or part.entry.name or f"entry {object_name(part.key)}")
         targets = self.network.targets(tpdo, part)
         receivers = ",".join(sorted({self.nodes[pdo.node] for pdo, _ in targets})) or NOBODY
         low, high = limits(part.entry, tpdo.node)
         sign = "-" if part.entry.kind in SIGNED else "+"
         self.messages.append(f' SG_ {name} : {part.start}|{part.bits}@1{sign} (1,0) [{low}|{high}] "" {receivers}')
         taken = [f"{self.network.name(pdo.node)} takes it as {described(other)}" for pdo, other in targets]
-        self.comments.append(f"CM_ SG_ {tpdo.identifier} {name} {quoted('; '.join([described(part)] + taken))};")
+        self.comments.append(f"CM_ SG_ {tpdo.identifier} {name} {dbc_text('; '.join([described(part)] + taken))};")
 
     def text(self):
         nodes = f"BU_: {' '.join(self.nodes.values())}".rstrip()

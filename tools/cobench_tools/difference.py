@@ -2,7 +2,7 @@
 
 Each part of it takes the two sides, and gives lines: `what: old -> new`, with a `+` what is new, with a `-` what is gone.
 """
-from . import findings, tool, trace_difference
+from . import judgement, safe_text, trace_difference
 from .device import object_name
 from .evidence import Evidence
 from .file_difference import nodes
@@ -23,7 +23,7 @@ class Side:
 
     def __init__(self, answered):
         self.answered, self.project = answered, answered.project
-        self.network, self.findings = Wiring(answered), findings.of(answered)
+        self.network, self.findings = Wiring(answered), judgement.of(answered)
 
 
 def changed(what, old, new):
@@ -48,7 +48,7 @@ def event_text(event):
     if event.kind == "nmt":
         return f"{event.time} us, NMT {event.what} to {event.node or 'all'}"
     is_set = event.kind == "set"
-    what = f"{object_name(event.entry)} := {tool.readable(event.what)}" if is_set else f"power {event.what}"
+    what = f"{object_name(event.entry)} := {safe_text.readable(event.what)}" if is_set else f"power {event.what}"
     return f"{event.time} us, node {event.node}: {what}"
 
 
@@ -69,7 +69,7 @@ def diagnostics(old, new):
     known = [{finding.words for finding in side.findings} for side in (old, new)]
     gone = [("-", each) for each in old.findings if each.words not in known[1]]
     come = [("+", each) for each in new.findings if each.words not in known[0]]
-    return [tool.readable(f"{sign} {each.severity}: {each.who}: {each.text} [{each.code}]")
+    return [safe_text.readable(f"{sign} {each.severity}: {each.who}: {each.text} [{each.code}]")
             for sign, each in gone + come]
 
 

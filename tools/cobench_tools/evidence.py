@@ -39,9 +39,9 @@ class Evidence:
         return self.sheet(self.project.nodes[node][1])
 
     def sheet(self, eds):
-        """The data sheet of a name."""
+        """The data sheet of a name; one without entries where none has it, as in replies of another session."""
         if eds not in self._devices:
-            self._devices[eds] = Device(self.project.texts[eds])
+            self._devices[eds] = Device(self.project.texts.get(eds, []))
         return self._devices[eds]
 
     def value_lines(self, eds):

@@ -1,12 +1,19 @@
-"""All that is wrong with a script: what was refused, what `diag` says, and what the run shows, each with its cause."""
-from . import boots, hints, meaning, pdo_values, tool, trace
-from .evidence import Evidence
+"""What is wrong with a script: what was refused, what `diag` says, and the boots that fail, each with its cause."""
+from typing import Dict, Iterable, List, Tuple
+
+from . import hints, meaning, pdo_values, safe_text, trace
 from .message_causes import MessageCauses
-from .value_causes import ValueCauses, shortened
+from .safe_text import shortened
+from .tool import Place
+from .value_causes import ValueCauses
 
 ERROR, WARNING = "error", "warning"
 PDO_VALUES = "pdo-values"
+WARNED = PDO_VALUES, "replaced", "no-source", "no-sink", "late-event", "bit-rate", "taken-twice", "sheet"
 MOST_NOTES = 8
+
+
+Note = Tuple[Place, str]
 
 
 class Finding:
@@ -23,47 +30,61 @@ class Finding:
     accepted  whether the user has accepted it
     """
 
-    def __init__(self, place, words, part, who, text, notes=()):
+    def __init__(self, place: Place, words: str, part: str, who: str, text: str, notes: Iterable[Note] = ()) -> None:
         self.place, self.words, self.part, self.who, self.text, self.notes = place, words, part, who, text, tuple(notes)
         self.code, self.accepted = words.split(" ", 1)[0], False
-        self.severity = WARNING if self.code[0] == "W" or self.code == PDO_VALUES else ERROR
+        self.severity = WARNING if self.code[0] == "W" or self.code in WARNED else ERROR
 
-    def same(self):
+    def same(self) -> Tuple[Place, str, str, str, Tuple[Note, ...]]:
         """What findings have in common that can be told as one."""
         return self.place, self.severity, self.code, self.text, self.notes
 
 
-def lines_of(findings):
+def lines_of(findings: Iterable[Finding]) -> List[str]:
     """The lines that tell findings: FILE:LINE: error: what is wrong [code]; those that differ by `who` alone as one."""
-    groups = {}
+    groups: Dict[Tuple[Place, str, str, str, Tuple[Note, ...]], List[str]] = {}
     for finding in findings:
         groups.setdefault(finding.same(), []).append(finding.who)
     lines = []
     for (place, severity, code, text, notes), who in groups.items():
         more = [f"and {len(who) - 4} more"] if len(who) > 4 else []
         subject = ", ".join(who[:4] + more)
-        what = tool.readable(f"{subject}: {text}" if subject else text)
+        what = safe_text.readable(f"{subject}: {text}" if subject else text)
         lines.append(f"{place}: {severity}: {what} [{code}]")
-        lines += [f"{where}: note: {tool.readable(words)}" for where, words in notes]
+        lines += [f"{where}: note: {safe_text.readable(words)}" for where, words in notes]
     return lines
 
 
-def milliseconds(time):
+def milliseconds(time: float) -> str:
     """A time in microseconds, in words."""
     return f"{time / 1000:,.3f} ms"
 
 
-def of(answered):
-    """The findings of a session that was asked `Evidence.QUERIES`."""
-    evidence = Evidence(answered)
-    return refused(answered) + diagnosed(evidence) + unused_values(evidence) + booted(evidence)
-
-
 def refused(answered):
-    """The commands that were refused."""
-    return [Finding(refusal.command.place, f"refused {refusal.shown}", "commands", "",
-                    f"{shortened(refusal.shown)}: refused {refusal.reply}" + (f": {refusal.hint}" if refusal.hint else ""))
-            for refusal in hints.refusals(answered.pairs)]
+    """The commands that were refused; those that were because an earlier one was are notes of its finding."""
+    found, of_command, more = [], {}, {}
+    for refusal in hints.refusals(answered.pairs):
+        root = of_command.get(id(refusal.cause)) if refusal.cause else None
+        finding = root or refused_one(refusal)
+        of_command[id(refusal.command)] = finding
+        if root is None:
+            found.append(finding)
+        elif len(root.notes) < MOST_NOTES:
+            root.notes += ((refusal.command.place, refusal_text(refusal)),)
+        else:
+            more[root] = more.get(root, 0) + 1
+    for root, count in more.items():
+        root.notes += ((root.place, f"and {count} more refused likewise"),)
+    return found
+
+
+def refused_one(refusal):
+    """The finding of a refused command."""
+    return Finding(refusal.command.place, f"refused {refusal.shown}", "commands", "", refusal_text(refusal))
+
+
+def refusal_text(refusal):
+    return f"{shortened(refusal.shown)}: refused {refusal.reply}" + (f": {refusal.hint}" if refusal.hint else "")
 
 
 def part_of(words):
@@ -90,30 +111,31 @@ def diagnosed(evidence):
 
 def unused_values(evidence):
     """The data sheets that give values to PDO objects, which nobody uses."""
-    found = []
-    for eds in sorted(evidence.project.texts):
-        numbers = evidence.value_lines(eds)
-        if numbers:
-            found.append(Finding(evidence.origins.sheet_place(eds, numbers[0]), f"{PDO_VALUES} {eds}", f"eds {eds}",
-                                 f"data sheet {eds}", pdo_values.not_used(len(numbers))))
-    return found
+    return [finding for eds in sorted(evidence.project.texts)
+            for finding in values_of_pdos(eds, evidence.value_lines(eds),
+                                          lambda line, eds=eds: evidence.origins.sheet_place(eds, line))]
 
 
-def booted(evidence):
-    """The nodes that failed to boot, and those that aren't configured at the horizon."""
-    lines = trace.trace_of(evidence.answered.lines("trace"))
-    return of_boots(evidence, boots.boots_of(lines), lambda nodes: last_said(evidence, lines, nodes))
+def values_of_pdos(eds, lines, place):
+    """The finding of these lines of a data sheet, which give values to PDO objects; `place` gives FILE:LINE of one."""
+    return [Finding(place(first), f"{PDO_VALUES} {eds}", f"eds {eds}", f"data sheet {eds}",
+                    pdo_values.not_used(len(lines)))
+            for first in lines[:1]]
 
 
-def of_boots(evidence, all_boots, said_of):
-    """The same of the boots of each node; `said_of` gives for some nodes what was last said by SDO, as `last_said` does."""
+def of_boots(evidence, all_boots, said_of, why_of=lambda node, boot: ""):
+    """The nodes that failed to boot, and those that aren't configured at the horizon, by the boots of each node.
+
+    said_of  gives for some nodes what was last said by SDO, as `last_said` does
+    why_of   gives why a boot isn't over, or why there is none, in words behind the others
+    """
     mine = {node: all_boots.get(node, []) for node in sorted(evidence.project.nodes)}
     troubled = [node for node, each in mine.items() if not each or not all(boot.is_configured() for boot in each)]
     said = said_of(troubled) if troubled else {}
-    return [finding for node in troubled for finding in troubles(evidence, node, mine[node], said[node])]
+    return [finding for node in troubled for finding in troubles(evidence, node, mine[node], said[node], why_of)]
 
 
-def troubles(evidence, node, mine, said):
+def troubles(evidence, node, mine, said, why_of):
     """What is wrong with the boots of a node, with what was last said by SDO at their ends."""
     def finding(words, text):
         return Finding(evidence.origins.place("node", node), words, f"node {node}", evidence.node_name(node), text)
@@ -126,7 +148,8 @@ def troubles(evidence, node, mine, said):
     if not mine or mine[-1].what is None:
         end = f"isn't configured at the end, {milliseconds(evidence.project.horizon)}"
         since = f"its boot began at {milliseconds(mine[-1].start)}; last: {said[None]}" if mine else "it sent no boot-up message"
-        found.append(finding(f"unconfigured {node}", f"{end}: {since}"))
+        why = why_of(node, mine[-1] if mine else None)
+        found.append(finding(f"unconfigured {node}", f"{end}: {since}{why}"))
     return found
 
 

@@ -3,6 +3,7 @@ import difflib
 import re
 
 from . import script, tool
+from .likely import number_hint
 
 # The words behind the first one, by command. An event's third word decides on the rest.
 FORMS = {
@@ -125,7 +126,8 @@ def has_text(form):
 def misplaced(first, rest, form):
     """That a word isn't where it stands: a file, a kind of event, a comment; or None."""
     if first == "eds" and len(rest) == 2 and re.search("[^0-9-]", rest[1]) and not begins_comment(rest[1]):
-        return f"LINES is a number; a file is taken in by `eds {rest[0]} <{rest[1]}` and `cobtool expand`"
+        file = rest[1].strip("\"'")
+        return f"LINES is a number; a file is taken in by `eds {rest[0]} <{file}` and `cobtool expand`"
     if first == "event" and len(rest) > 2 and rest[2] not in EVENTS:
         return f"an event is one of set, power and nmt, not {rest[2]}"
     if len(rest) > len(form) and not has_text(form) and begins_comment(rest[len(form)]):
@@ -178,5 +180,8 @@ def wrong_number(kind, word):
         return None
     if word.startswith("-"):
         return f"{kind} has no sign: {word}"
+    hint = number_hint(kind, word)
+    if hint:
+        return hint
     digits = "" if re.match("0[xX]", word) else " of at most 10 digits"
     return f"{kind} is a decimal number{digits}, not {word}"

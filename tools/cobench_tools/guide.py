@@ -1,4 +1,6 @@
-"""The manual page and the completion for bash, made of the words that the commands have."""
+"""The manual page and the completion for bash and zsh, made of the words that the commands have."""
+import argparse
+
 from . import VERSION, main, tool
 
 MANUAL = r""".TH COBTOOL 1 "" "cobtool {version}" "User Commands"
@@ -19,6 +21,9 @@ why on the standard error.
 .B COBENCH
 the program to run, with its words, where \-\-cobench doesn't say it
 .TP
+.B CI
+where it is set, a script takes in files below its own folder alone, if \-\-within doesn't say another
+.TP
 .B COBTOOL_DEBUG
 where it isn't empty, a fault of cobtool itself is shown as Python shows it
 """
@@ -28,12 +33,14 @@ writes the files of the nodes, and tells what happens on the bus."""
 
 COMPLETION = r"""# Completes the words of cobtool in bash. Made by `cobtool completion`.
 _cobtool() {{
-    local current=${{COMP_WORDS[COMP_CWORD]}} previous=${{COMP_WORDS[COMP_CWORD-1]}} words=
+    local current=${{COMP_WORDS[COMP_CWORD]}} previous=${{COMP_WORDS[COMP_CWORD-1]}} command=${{COMP_WORDS[1]}} words=
     if [ "$COMP_CWORD" -eq 1 ]; then
         COMPREPLY=($(compgen -W "{commands} --help --version" -- "$current"))
         return
     fi
-    case "${{COMP_WORDS[1]}} $previous" in
+    case "$command" in
+{actions}    esac
+    case "$command $previous" in
 {choices}    esac
     if [ -n "$words" ]; then
         COMPREPLY=($(compgen -W "$words" -- "$current"))
@@ -45,17 +52,57 @@ _cobtool() {{
        COMPREPLY=($(compgen -f -- "$current"))
        return ;;
     esac
-    case "${{COMP_WORDS[1]}}" in
+    case "$command" in
 {options}    esac
     COMPREPLY=($(compgen -W "$words" -- "$current"))
 }}
 complete -F _cobtool cobtool
 """
 
+ZSH_COMPLETION = r"""#compdef cobtool
+# Completes the words of cobtool in zsh. Made by `cobtool completion --shell zsh`.
+_cobtool_action() {{
+    if (( CURRENT == 2 )); then
+        _describe action described
+        return 1
+    fi
+    command="$command $words[2]"
+    shift words
+    (( CURRENT-- ))
+}}
+_cobtool() {{
+    local -a described
+    described=(
+{commands}    )
+    if (( CURRENT == 2 )); then
+        _describe command described
+        return
+    fi
+    local command=$words[2]
+    shift words
+    (( CURRENT-- ))
+    case $command in
+{actions}    esac
+    case $command in
+{options}    esac
+}}
+if [[ $zsh_eval_context[-1] == loadautofunc ]]; then _cobtool "$@"; else compdef _cobtool cobtool; fi
+"""
+
 
 def parsers():
-    """The parser of each command, by its name."""
-    return [(command, main.parser_of(command)) for command in main.COMMANDS]
+    """The parser of each command, and behind it those of its actions, by their words."""
+    found = []
+    for command in main.COMMANDS:
+        parser = main.parser_of(command)
+        found.append((command, parser))
+        found += [(f"{command} {action}", part) for action, part in parts_of(parser).items()]
+    return found
+
+
+def parts_of(parser):
+    """The parsers of the actions of a command, by their names."""
+    return next((action.choices for action in actions_of(parser) if isinstance(action, argparse._SubParsersAction)), {})
 
 
 def actions_of(parser):
@@ -114,7 +161,20 @@ def choices_of(command, parser):
 def options_of(command, parser):
     """The line of the completion on the options of a command."""
     names = [name for action in actions_of(parser) for name in action.option_strings if name.startswith("--")]
-    return f'    {command}) words="{" ".join(names)}" ;;\n'
+    return f'    {quoted(command)}) words="{" ".join(names)}" ;;\n'
+
+
+def quoted(command):
+    """The words of a command as one word of bash."""
+    return f'"{command}"' if " " in command else command
+
+
+def parts_line(command, parser):
+    """The line of the completion on the action of a command, which is a part of the command's name from there on."""
+    names = " ".join(parts_of(parser))
+    behind = f'command="{command} ${{COMP_WORDS[2]}}"'
+    line = f'    {command}) if [ "$COMP_CWORD" -eq 2 ]; then words="{names} --help"; else {behind}; fi ;;\n'
+    return line if names else ""
 
 
 def completion():
@@ -122,4 +182,45 @@ def completion():
     every = parsers()
     choices = "".join(line for command, parser in every for line in choices_of(command, parser))
     options = "".join(options_of(command, parser) for command, parser in every)
-    return COMPLETION.format(commands=" ".join(main.COMMANDS), choices=choices, options=options)
+    actions = "".join(parts_line(command, parser) for command, parser in every)
+    return COMPLETION.format(commands=" ".join(main.COMMANDS), actions=actions, choices=choices, options=options)
+
+
+def zsh_text(text):
+    """A text as it stands in a description between quotation marks and brackets."""
+    return " ".join(text.split()).replace("'", "'\\''").replace("[", "(").replace("]", ")").replace(":", "\\:")
+
+
+def zsh_option(action, name):
+    """What _arguments takes for an option; one with a star can be given more than once."""
+    name = f"*{name}" if isinstance(action, argparse._AppendAction) else name
+    if action.nargs == 0:
+        return f"'{name}[{zsh_text(action.help or '')}]'"
+    values = f"({' '.join(map(str, action.choices))})" if action.choices else "_files"
+    return f"'{name}[{zsh_text(action.help or '')}]:{zsh_text(action.metavar or 'value')}:{values}'"
+
+
+def zsh_options_of(command, parser):
+    """The lines of the completion for zsh on the words of a command."""
+    words = [zsh_option(action, name) for action in actions_of(parser) for name in action.option_strings]
+    return f"    {quoted(command)})\n        _arguments " + " \\\n            ".join(words + ["'*:file:_files'"]) + " ;;\n"
+
+
+def zsh_described(parsers):
+    """The lines that describe commands or actions."""
+    return "".join(f"        '{name}:{zsh_text(parser.description)}'\n" for name, parser in parsers)
+
+
+def zsh_parts_of(command, parser):
+    """The lines that complete the action of a command, and take it for a part of the command's name."""
+    parts = parts_of(parser).items()
+    described = f"        described=(\n{zsh_described(parts)}        )\n"
+    return f"    {command})\n{described}        _cobtool_action || return ;;\n" if parts else ""
+
+
+def zsh_completion():
+    """The completion for zsh."""
+    every = parsers()
+    commands = zsh_described((command, parser) for command, parser in every if " " not in command)
+    return ZSH_COMPLETION.format(commands=commands, actions="".join(zsh_parts_of(*each) for each in every),
+                                 options="".join(zsh_options_of(*each) for each in every))

@@ -1,6 +1,7 @@
 """Why a command was refused, where it is one of the common slips."""
-from . import tool
-from .forms import bad_syntax, form_of
+from . import tool, wrong_word as wrong
+from .forms import FORMS, bad_syntax, form_of, wrong_word
+from .likely import node_hint
 from .limits import out_of_range
 from .project import Project
 
@@ -23,16 +24,26 @@ def limit(command, project):
             b"message": "a network has at most 1,024 messages"}.get(command.name)
 
 
+def named(command, project):
+    """That a word is the name of a node where its number belongs, or None."""
+    first, *rest = [tool.shown(word) for word in command.words]
+    if first not in FORMS:
+        return None
+    wrong = ((kind, word) for kind, word in zip(form_of(first, rest), rest) if wrong_word(kind, word))
+    return next((node_hint(kind, word, project) for kind, word in wrong), None)
+
+
 class Hints:
     """Gives hints, over the project before each command and what became of the names that aren't there.
 
-    gone  for each kind of thing and its name the command by which it isn't there: refused, or dropped
+    gone   for each kind of thing and its name the command by which it isn't there: refused, or dropped
+    cause  the refused command on which the refusal of the last one follows, None where there is none
     """
 
     MADE = ("node", "eds", "message", "event")
 
     def __init__(self):
-        self.gone = {}
+        self.gone, self.cause = {}, None
 
     def note(self, command, is_accepted):
         """A command was accepted or refused: what it makes is there, or isn't."""
@@ -52,6 +63,7 @@ class Hints:
         if not before:
             return f"{what} {word} isn't there; there are: {list_of(known)}"
         happened = "dropped" if before.name.startswith(b"drop-") else "refused"
+        self.cause = before if happened == "refused" else None
         where = f"line {before.number}" if before.path == command.path else before.place
         return f"{what} {word} was {happened} in {where}"
 
@@ -105,14 +117,14 @@ class Hints:
 
     def why(self, command, project):
         """Why an edit would be refused, as far as the script shows, or None."""
-        return (truncated(command) or bad_syntax(command) or out_of_range(command, project) or self.unknown(command, project)
-                or self.taken(command, project) or self.in_use(command, project))
+        return (truncated(command) or named(command, project) or bad_syntax(command) or out_of_range(command, project)
+                or self.unknown(command, project) or self.taken(command, project) or self.in_use(command, project))
 
     def of(self, command, reply, project):
         """A hint on a refused command, or None."""
-        number, syntax = int(reply.refused[0]), bad_syntax(command)
+        self.cause, number, syntax = None, int(reply.refused[0]), bad_syntax(command)
         if number == 2 or syntax:
-            return syntax if number == 2 else None
+            return named(command, project) or syntax if number == 2 else None
         if number in (3, 8):
             return out_of_range(command, project)
         if number == 4:
@@ -127,10 +139,13 @@ class Hints:
 
 
 class Refusal:
-    """A refused command, the reply, as `4 Unknown`, and a hint on why, or None."""
+    """A refused command, the reply, as `4 Unknown`, a hint on why, or None, and the refused command behind it, or None.
 
-    def __init__(self, command, reply, hint):
-        self.command, self.reply, self.hint = command, reply, hint
+    word  which of its words is wrong (wrong_word.py)
+    """
+
+    def __init__(self, command, reply, hint, cause=None, word=wrong.ALL):
+        self.command, self.reply, self.hint, self.cause, self.word = command, reply, hint, cause, word
 
     @property
     def shown(self):
@@ -151,6 +166,7 @@ def refusals(pairs):
         if reply.is_accepted():
             project.take(command)
         else:
-            found.append(Refusal(command, reply.refused, hints.of(command, reply, project)))
+            hint, word = hints.of(command, reply, project), wrong.place_of(command, reply, project)
+            found.append(Refusal(command, reply.refused, hint, hints.cause, word))
         hints.note(command, reply.is_accepted())
     return found

@@ -1,9 +1,8 @@
 """The limits of numbers in commands, and which one a command passes: the causes of `3 Range` (docs/rules/commands.md)."""
 from . import script, tool
 from .forms import form_of
+from .project import RATES, SERVICES
 
-RATES = 10, 20, 50, 125, 250, 500, 1000
-SERVICES = 1, 2, 128, 129, 130
 LEAST_SYNC = 1000
 
 # The least and the greatest number of each kind of word.

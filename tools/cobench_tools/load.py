@@ -17,13 +17,14 @@ class Analysis:
 
     def __init__(self, found, bit, bits):
         self.bit, self.bits, self.jitter = bit, bits, 0
-        self.streams = {each: Stream(each.identifier, bits(each.size) * bit, each.period) for each in found}
+        self.streams = {each: Stream(each.priority, bits(each.size, each.is_extended) * bit, each.period, each.jitter)
+                        for each in found}
         self.of = self._responses()
         sync = next((each for each in found if each.part == ("manager",) and each.identifier == SYNC), None)
         if sync and self.of[sync].wait:
             self.jitter = self.of[sync].wait - plain_bits(sync.size) * bit
             for each in found:
-                self.streams[each].jitter = self.jitter if each.is_of_sync() else 0
+                self.streams[each].jitter = self.jitter if each.is_of_sync() else each.jitter
             self.of = self._responses()
 
     def _responses(self):
@@ -34,8 +35,8 @@ class Analysis:
         return self.streams[each].duration
 
     def share(self, each):
-        """The share of the bus in per cent, None where nothing bounds how often it comes."""
-        return None if each.period is None else 100 * self.duration(each) / each.period
+        """The share of the bus in per cent, None of one frame alone, and where nothing bounds how often it comes."""
+        return None if each.period is None or each.is_once else 100 * self.duration(each) / each.period
 
 
 class Load:
@@ -45,16 +46,22 @@ class Load:
     plain    the worst cases without stuff bits, as the simulation has frames
     stuffed  the worst cases with the most stuff bits
     seen     what the trace shows of each
+
+    `foreign` are the frames of others on the bus.
     """
 
-    def __init__(self, network, lines, window=None, assumed=None):
-        self.network, self.window, self.assumed = network, window, assumed
+    def __init__(self, network, lines, window=None, assumed=None, foreign=()):
+        self.network, self.window, self.assumed, self.foreign = network, window, assumed, foreign
         self.bit = 1000 // network.project.bitrate
         self.unbounded = [each for each in traffic.traffic_of(network) if each.period is None]
-        self.traffic = traffic.traffic_of(network, assumed)
+        self.traffic = traffic.traffic_of(network, assumed, foreign)
         self.plain, self.stuffed = (Analysis(self.traffic, self.bit, bits) for bits in (plain_bits, most_bits))
-        self.lines = trace.trace_of(lines)
+        self.lines = trace.of_answer(lines)
         self.seen = waits.Waits(network, self.traffic, self.lines, self.bit).seen
+
+    def bits(self, analysis, each):
+        """How many bits a frame has."""
+        return analysis.bits(each.size, each.is_extended)
 
     def deadline(self, each, analysis=None):
         """Within which time a frame has to be there, and what says so."""
@@ -68,9 +75,9 @@ class Load:
         return each.period, "the next one of it"
 
     def is_late(self, each):
-        """Whether a frame may miss its deadline; None where there is no bound."""
+        """Whether a frame may miss its deadline; None where there is no bound, and of frames that have none."""
         wait = self.stuffed.of[each].wait
-        return None if wait is None or each.period is None else wait > self.deadline(each)[0]
+        return None if wait is None or not each.has_deadline() else wait > self.deadline(each)[0]
 
     def total(self, analysis):
         """The share of the bus of all frames that have a bound, in per cent."""
@@ -89,9 +96,9 @@ class Load:
 
     def _holds(self, inhibit):
         """Whether all is in time where those without a bound come at most each 100 us by that number."""
-        found = traffic.traffic_of(self.network, 100 * inhibit)
+        found = traffic.traffic_of(self.network, 100 * inhibit, self.foreign)
         analysis = Analysis(found, self.bit, most_bits)
-        waits_of = [(each, analysis.of[each].wait) for each in found]
+        waits_of = [(each, analysis.of[each].wait) for each in found if each.has_deadline()]
         return all(wait is not None and wait <= self.deadline(each, analysis)[0] for each, wait in waits_of)
 
 

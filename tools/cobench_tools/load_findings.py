@@ -37,7 +37,8 @@ class LoadFindings:
 
     def overload(self, each):
         """That the frames up to this one ask for more than the bus can carry."""
-        share = sum(self.load.stuffed.share(other) for other in self.load.traffic if other.identifier <= each.identifier)
+        before = [other for other in self.load.traffic if other.priority <= each.priority]
+        share = sum(self.load.stuffed.share(other) or 0 for other in before)
         return f"with what goes before it the bus has {share:.1f} % to carry, so that nothing bounds how long it waits"
 
     def late(self, each):
@@ -45,7 +46,12 @@ class LoadFindings:
         response, (deadline, what) = self.load.stuffed.of[each], self.load.deadline(each)
         since = " after SYNC" if each.is_of_sync() else ""
         return (f"at worst {milliseconds(response.wait)}{since}, and {what} is {milliseconds(deadline)}: "
-                f"{' and '.join(causes_of(response)) or 'itself'}")
+                f"{' and '.join(causes_of(response, self.alarms(each))) or 'itself'}")
+
+    def alarms(self, each):
+        """How many emergencies go before a frame."""
+        alarms = [other for other in self.load.traffic if other.is_once and other.part[0] == "node"]
+        return sum(other.priority < each.priority for other in alarms)
 
     def beyond_bound(self, each):
         """That the trace has a longer wait than the analysis allows, or more frames than it counts."""
@@ -72,10 +78,12 @@ def assumed(each):
     return f"it has an event time but no inhibit time: it is taken to come {each.comes}"
 
 
-def causes_of(response):
-    """What a frame waits for at worst."""
+def causes_of(response, alarms):
+    """What a frame waits for at worst, so many emergencies among it."""
     count, time = response.frames_before()
-    causes = [f"{count} frame{'' if count == 1 else 's'} of higher priority in {milliseconds(time)}"] if count else []
+    these = f", {alarms} of them emergencies," if alarms > 1 else ", one of them an emergency," if alarms else ""
+    frames = "1 frame" if count == 1 else f"{count} frames"
+    causes = [f"{frames} of higher priority{these} in {milliseconds(time)}"] if count else []
     causes += [f"{response.earlier} of its own before it"] if response.earlier else []
     if response.blocking:
         causes.append(f"one of lower priority that had started, in {milliseconds(response.blocking)}")

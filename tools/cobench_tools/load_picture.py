@@ -1,5 +1,5 @@
 """A picture of the worst case of each identifier, as SVG: a bar for what it waits for, by priority."""
-from .tables import html_text
+from .safe_text import markup
 
 WIDTH, LABELS, ROW, HEAD, FOOT = 1000, 220, 20, 34, 40
 MOST_LETTERS = 28
@@ -25,7 +25,7 @@ def upright(place, top, bottom, what, width=2):
 def words(text, place, bottom, what="text", anchor="start"):
     """A text."""
     where = f'x="{place:.1f}" y="{bottom}" text-anchor="{anchor}"'
-    return f'<text class="{what}" {where} fill="{COLOURS[what]}">{html_text(text)}</text>'
+    return f'<text class="{what}" {where} fill="{COLOURS[what]}">{markup(text)}</text>'
 
 
 class Axis:

@@ -8,7 +8,7 @@ NO_RTR = 1 << 30
 
 # What messages never say of a PDO, and what it comes to, for all PDOs of a node together.
 REMOTE_FRAMES = "its COB-ID allows remote frames, and by the script it doesn't"
-RPDO_TYPE = "its transmission type is another, and by the script 0 at SYNC and 255 else"
+RPDO_TYPE = "its transmission type is another, and by the script 255"
 
 
 class Lost:
@@ -24,8 +24,7 @@ class Lost:
             return None
         if direction == TPDO and self.key[1] == 1 and self.wanted ^ self.made == NO_RTR:
             return REMOTE_FRAMES
-        is_same_kind = (self.wanted <= 240) == (self.made <= 240)
-        return RPDO_TYPE if direction == RPDO and self.key[1] == 2 and is_same_kind else None
+        return RPDO_TYPE if direction == RPDO and self.key[1] == 2 and min(self.wanted, self.made) > 240 else None
 
 
 def lost_values(node, made):
@@ -36,9 +35,15 @@ def lost_values(node, made):
         if is_of_pdos(key[0]) and matters(node, made, key):
             number = made_number(node, made, key)
             wanted = int.from_bytes(node.written[key], "little")
-            if number != wanted:
+            if number != wanted and not means_the_same(key, wanted, number):
                 found.setdefault(pdo_of(key[0]), []).append(Lost(entry.line, key, wanted, number))
     return found
+
+
+def means_the_same(key, one, other):
+    """Whether two numbers of an entry come to the same by CiA 301: the transmission types 0 to 240 of an RPDO."""
+    direction, number = pdo_of(key[0])
+    return direction == RPDO and key == (COMMUNICATION[RPDO] + number, 2) and max(one, other) <= 240
 
 
 def made_number(node, made, key):

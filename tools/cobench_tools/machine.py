@@ -1,8 +1,7 @@
 """The script of an existing machine, of the DCFs of its nodes."""
 import os
-import re
 
-from . import lost_pdos, tool
+from . import lost_pdos, safe_text, taken_twice, tool
 from .joined import MOST_MESSAGES, Joined, free_name
 from .limits import RATES
 from .node_file import NodeFile
@@ -32,8 +31,8 @@ def read_files(paths):
 
 
 def comment(text):
-    """A comment line; what can't stand in a line becomes a blank."""
-    return "# " + re.sub("[\x00-\x1f\x7f]", " ", tool.readable(text))
+    """A comment line."""
+    return f"# {safe_text.readable(text)}"
 
 
 class Machine:
@@ -64,6 +63,10 @@ class Machine:
         if file.bitrate not in (None, self.bitrate):
             network = f"the network has {self.bitrate}" if self.bitrate else "cobench has no such bit rate"
             lost.append((file.line, f"Baudrate is {file.bitrate} kbit/s; {network}"))
+        lost += taken_twice.warnings(file, plan.values(file.number))
+        dropped = ", ".join(f"{key}={value} (line {line})" for line, key, value in file.dropped)
+        if dropped:
+            lost.append((file.dropped[0][0], f"the script has no word for what the commissioning section says besides: {dropped}"))
         return self.values[file.number].told + [(line, WARNING, words) for line, words in lost]
 
     def _share_sheets(self):

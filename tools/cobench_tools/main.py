@@ -1,19 +1,17 @@
 """The program `cobtool`: it finds the command that its first word names, and has it do its work."""
 import difflib
 import importlib
-import os
 import sys
-import traceback
 
-from . import tool
+from . import own_faults, tool, within
 
 # The commands, in the order of a day's work. Each is the module of that name in commands/.
 COMMANDS = (
-    "check", "export",
+    "start", "check", "export",
     "import", "matrix", "diff", "dbc", "load",
     "expand", "eds",
     "refusals", "explain", "stats", "timeline", "candump", "conform",
-    "live",
+    "live", "lsp", "bus",
     "man", "completion",
 )
 
@@ -52,6 +50,8 @@ def parser_of(command):
     module = module_of(command)
     parser = tool.Parser(f"cobtool {command}", module.SUMMARY)
     module.arguments(parser)
+    if command in within.COMMANDS:
+        within.add_argument(parser)
     return parser
 
 
@@ -71,13 +71,20 @@ def run(words):
         raise no_command(words[0])
     if sys.stdout is None:
         raise tool.Fault("the standard output is closed")
-    return module_of(words[0]).run(parser_of(words[0]).parse_args(words[1:]))
+    options = parser_of(words[0]).parse_args(words[1:])
+    within.rule.choose(getattr(options, "within", None))
+    return module_of(words[0]).run(options)
 
 
 def main(words=None):
     """Runs `cobtool` with these words, or with those of the command line, and gives its status."""
+    return ended(lambda: run(sys.argv[1:] if words is None else words))
+
+
+def ended(work):
+    """The status with which a work ends; why it can't be done is said in one line."""
     try:
-        return run(sys.argv[1:] if words is None else words)
+        return work()
     except tool.Fault as fault:
         tool.say(fault)
     except KeyboardInterrupt:
@@ -93,8 +100,6 @@ def main(words=None):
 
 def own_fault(error):
     """What is told where cobtool itself is wrong; with COBTOOL_DEBUG it shows where."""
-    if os.environ.get("COBTOOL_DEBUG"):
+    if own_faults.is_debugging():
         raise error
-    name, line, _, _ = traceback.extract_tb(error.__traceback__)[-1]
-    where = f"{os.path.basename(name)}:{line}"
-    return f"a fault of cobtool itself, please tell its makers: {type(error).__name__} in {where}: {error}".splitlines()[0]
+    return f"a fault of cobtool itself, please tell its makers: {own_faults.words_of(error)}"

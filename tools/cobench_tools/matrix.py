@@ -1,5 +1,5 @@
 """The tables of a network for the papers of its machine: nodes, messages, signals, parameters, heartbeats."""
-from . import pdo_values, tool, values
+from . import pdo_values, safe_text, tool, values
 from .device import BITS, SIGNED, VISIBLE_STRING, object_name
 from .tables import Table
 
@@ -9,7 +9,7 @@ NONE = "-"
 def value_text(kind, data):
     """Bytes as a value of a data type: numbers decimal, unsigned ones hexadecimal too."""
     if kind == VISIBLE_STRING:
-        return tool.readable(tool.shown(data))
+        return safe_text.readable(tool.shown(data))
     if kind not in BITS:
         return data.hex(" ").upper()
     number = int.from_bytes(data, "little", signed=kind in SIGNED)

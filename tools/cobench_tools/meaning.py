@@ -5,11 +5,12 @@ node's EDS, and from the writes by which the manager configures it in the trace.
 """
 from collections import namedtuple
 
-from . import device
-from .trace import Note
+from . import device, receiver_names
+from .logs.rows import NAMES
+from .trace import Foreign, Note
 
-NMT, SYNC, EMCY, PDO, SDO, HEARTBEAT, NOTE = "NMT", "SYNC", "EMCY", "PDO", "SDO", "heartbeat", "note"
-KINDS = (NMT, SYNC, EMCY, PDO, SDO, HEARTBEAT)
+NMT, SYNC, EMCY, PDO, SDO, HEARTBEAT, OTHER, NOTE = "NMT", "SYNC", "EMCY", "PDO", "SDO", "heartbeat", "other", "note"
+KINDS = (NMT, SYNC, EMCY, PDO, SDO, HEARTBEAT, OTHER)
 
 SERVICES = {1: "start", 2: "stop", 128: "enter pre-operational", 129: "reset node", 130: "reset communication"}
 STATES = {0: "boot-up", 4: "stopped", 5: "operational", 127: "pre-operational"}
@@ -34,7 +35,7 @@ PREDEFINED = {0x180: "TPDO 1", 0x280: "TPDO 2", 0x380: "TPDO 3", 0x480: "TPDO 4"
 class Meaning:
     """What a line of a trace says.
 
-    kind     NMT, SYNC, EMCY, PDO, SDO, heartbeat (boot-ups too) or note
+    kind     NMT, SYNC, EMCY, PDO, SDO, heartbeat (boot-ups too), note, or other of what isn't of the network
     sender   the number of the node that sends it, None where that isn't known
     node     the number of the node that it is of, None where it is of none
     subject  the message, PDO or object that it is of
@@ -97,6 +98,12 @@ def identifiers_of(node, values):
     return owned | {base + node for base in PREDEFINED}
 
 
+def foreign(line):
+    """The meaning of what a recording has besides the frames of the network."""
+    name = NAMES[line.kind][0]
+    return Meaning(OTHER, None, None, name, f"{name}: {line.data.hex(' ').upper()}" if line.data else name)
+
+
 def same(one, other):
     return one is other or one == other
 
@@ -118,6 +125,7 @@ class Network:
         self.devices = {node: devices[eds] for node, (_, eds) in project.nodes.items()} if project else {}
         self.messages = {(each.node, each.tpdo): name for name, each in project.messages.items()} if project else {}
         self.with_names = with_names
+        self._beside = receiver_names.of_project(project, devices) if project and with_names else {}
         self.values, self.owners, self.transfers, self.touched = {}, {}, {}, set()
         self._pdos, self._defaults, self._said = {}, {}, {}
 
@@ -214,6 +222,8 @@ class Network:
         """The meaning of a frame or note, the next of the trace."""
         if isinstance(line, Note):
             return Meaning(NOTE, self.manager, line.node, line.what, f"note {self.name(line.node)} {line.what}")
+        if isinstance(line, Foreign):
+            return foreign(line)
         identifier, data = line.identifier, line.data
         node = identifier & 0x7F
         if identifier == 0 and len(data) == 2:
@@ -259,7 +269,7 @@ class Network:
         subject = " or ".join(self.messages.get(owner, f"{self.name(owner[0])} TPDO {owner[1]}") for owner in owners)
         node, tpdo = owners[0]
         mapping = self.mapping(node, tpdo) if len(owners) == 1 else None
-        return Pdo(node, subject, None if mapping is None else tuple(self.part(node, key, bits) for key, bits in mapping))
+        return Pdo(node, subject, None if mapping is None else tuple(self.part(node, tpdo, key, bits) for key, bits in mapping))
 
     def predefined(self, identifier):
         """The PDO of an identifier that no TPDO is known to have."""
@@ -268,10 +278,11 @@ class Network:
             return Pdo(None, "PDO", None)
         return Pdo(node if what[0] == "T" else None, f"{self.name(node)} {what}", None)
 
-    def part(self, node, key, bits):
-        """The label, bits and data type of what a PDO has of an entry."""
+    def part(self, node, tpdo, key, bits):
+        """The label, bits and data type of what a PDO has of an entry; a name that says nothing has the receivers' beside it."""
         where = f"{key[0]:04X}h" + (f":{key[1]:02X}" if key[1] else "")
-        return where + self.name_text(node, key), bits, self.kind_of(node, key)
+        beside = self._beside.get((node, tpdo), {}).get(key)
+        return where + self.name_text(node, key) + (f" ({beside})" if beside else ""), bits, self.kind_of(node, key)
 
     # SDO: the manager's requests, and a node's answers.
 

@@ -1,5 +1,5 @@
 """The network of a command's SCRIPT, as cobench answers it."""
-from . import acceptance, findings, session, tool
+from . import acceptance, findings, judgement, session, tool
 from .evidence import Evidence
 from .report import Report
 from .wiring import Wiring
@@ -26,10 +26,10 @@ def asked(options):
     return session.run(options.script, options.cobench, Evidence.QUERIES)
 
 
-def report_of(options, answered, more=()):
-    """What is wrong with a session, with what else was found, those that the user accepts marked."""
-    found = findings.of(answered) + list(more)
-    acceptance.judge(found, options)
+def report_of(options, answered, more=(), codes=frozenset()):
+    """What is wrong with a session, with what else was found by a command of these codes, what the user accepts marked."""
+    found = judgement.of(answered) + list(more)
+    acceptance.judge(found, options, acceptance.PLAN | codes)
     return Report(answered, found)
 
 

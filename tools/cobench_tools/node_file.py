@@ -2,19 +2,21 @@
 import os
 import re
 
-from . import ini, script, tool, values
+from . import ini, safe_text, script, tool, values
 from .device import Device, read_number
 from .pdo_values import is_of_pdos
 from .wiring import Node, pdo_numbers, pdo_of
 
 COMMISSIONING = "devicecomissioning", "devicecommissioning"
 LONGEST_NAME = 32
+SPELLED = {"netnumber": "NetNumber", "networkname": "NetworkName", "canopenmanager": "CANopenManager",
+           "lss_serialnumber": "LSS_SerialNumber", "noderefd": "NodeRefd", "netrefd": "NetRefd"}
 VALUES = re.compile("([0-9a-f]{4})value")
 
 
 def name_of(text):
     """A text as a name that a script can have, "" where nothing of it can stand in one."""
-    return re.sub("[^A-Za-z0-9]+", "_", tool.readable(text)).strip("_")[:LONGEST_NAME]
+    return re.sub("[^A-Za-z0-9]+", "_", safe_text.readable(text)).strip("_")[:LONGEST_NAME]
 
 
 def is_export(lines):
@@ -33,6 +35,7 @@ class NodeFile:
     number, name    the node's
     bitrate, line   its Baudrate in kbit/s, None for none, and the line of its NodeID
     is_manager      whether it is the CANopen manager
+    dropped         the keys of its commissioning section that no script can say: line, key and value each
     is_export       whether it has the form in which cobench prints DCFs: then each of its values was set by somebody
     device          its entries, with the values that the file gives them
     sheet           the lines of its data sheet: without these values, and without who the node is
@@ -62,7 +65,13 @@ class NodeFile:
         stem = os.path.splitext(os.path.basename(self.path))[0]
         self.name = name_of(keys.get("nodename", "")) or name_of(stem) or f"node_{self.number}"
         self.is_manager = bool(read_number(keys.get("canopenmanager", "0")))
+        self.dropped = [(keys.lines[key], SPELLED.get(key, key), value)
+                        for key, value in keys.items() if value and self._is_dropped(key)]
         self.bitrate = read_number(keys.get("baudrate", ""))
+
+    def _is_dropped(self, key):
+        """Whether a key of the commissioning section says what a script has no word for."""
+        return self.is_manager if key == "canopenmanager" else key not in ("nodeid", "nodename", "baudrate")
 
     def _given_values(self):
         """The bytes of the entries to which the file gives values."""
@@ -81,8 +90,9 @@ class NodeFile:
         return [pdo for pdo in self.on_pdos(direction) if (direction, pdo.number) in set_ones]
 
     def _without_values(self, lines):
-        """The lines of the data sheet."""
-        given = {entry.line for entry in self.device.entries.values() if entry.value}
+        """The lines of the data sheet; values of types that cobench doesn't model stay, as no script can set them."""
+        given = {entry.line for key, entry in self.device.entries.items()
+                 if entry.value and (entry.kind in values.MODELLED or is_of_pdos(key[0]))}
         kept, section, start = [], "", 0
         for number, line in enumerate(lines, 1):
             name = ini.header_of(line.strip(ini.BLANKS))

@@ -19,10 +19,12 @@ class NodeValues:
 
     def __init__(self, file, with_defaults):
         self.file, self.parameters, self.told = file, [], []
-        unset, equal = {}, []
+        unset, equal, kept = {}, [], {}
         for key, entry in sorted(file.device.entries.items()):
             why = self._why_not(key, entry) if entry.value else None
-            if why:
+            if entry.value and self._stays(key, entry):
+                kept.setdefault(entry.kind, []).append((entry.line, key))
+            elif why:
                 unset.setdefault(why, []).append((entry.line, key))
             elif not entry.value or is_of_pdos(key[0]) or not entry.is_writable():
                 continue
@@ -32,7 +34,14 @@ class NodeValues:
                 self.parameters.append((key, entry.value))
         for why, several in unset.items():
             self._tell(WARNING, several, f"not taken over, as {why}")
+        for kind, several in kept.items():
+            self._tell(WARNING, several, "kept in the data sheet, and so in the DCF (E16), but not written, as of "
+                       f"{values.type_name(kind)}, a data type that cobench doesn't write")
         self._tell(NOTE, equal, "no parameter is needed for the default's value (--all makes one)")
+
+    def _stays(self, key, entry):
+        """Whether a value stays in the data sheet, as cobench doesn't model its type."""
+        return entry.kind not in values.MODELLED and not is_of_pdos(key[0])
 
     def _is_default(self, key, entry):
         return self.file.node.written.get(key) == values.default_of(entry, self.file.number)
@@ -42,8 +51,6 @@ class NodeValues:
         data = self.file.node.written.get(key)
         if is_of_pdos(key[0]):
             return f"no value of {values.type_name(entry.kind)}" if data is None else None
-        if entry.kind not in values.MODELLED:
-            return f"of {values.type_name(entry.kind)}, a data type that cobench doesn't write"
         if not entry.is_writable():
             return None if self._is_default(key, entry) else "read only, and not the default"
         if data is None:

@@ -1,14 +1,14 @@
 """Which command of a script last made each part of its project."""
 import functools
 
-from .project import hexadecimal, number
+from .digits import decimal, hexadecimal
 from .script import MOST_KNOWN, shown_words_in
 
 # By command the words that say which part it makes, each with how it is read.
 PARTS = {
-    "manager": (), "sync-counter": (), "horizon": (), "eds": (str,), "node": (number,),
-    "param": (number, hexadecimal, hexadecimal), "event": (number,), "message": (str,), "start": (str,),
-    "source": (str, number), "sink": (str, number, number),
+    "manager": (), "sync-counter": (), "horizon": (), "eds": (str,), "node": (decimal,),
+    "param": (decimal, hexadecimal, hexadecimal), "event": (decimal,), "message": (str,), "start": (str,),
+    "source": (str, decimal), "sink": (str, decimal, decimal),
 }
 
 

@@ -1,20 +1,24 @@
 """Files that are written whole or not at all."""
-import errno
 import os
+from typing import Dict, Optional
 
 from . import tool
+from .exchange import Exchange
+from .interrupts import Held
+
+PREFIX = ".cobtool-"    # of the folder in which new files stand until all of them are written
 
 
-def write_file(path, data):
-    """Writes a file: beside its place first, where that isn't a device or a pipe."""
-    folder, name = os.path.split(path)
+def write_file(path: str, data: bytes) -> None:
+    """Writes the file that the user names: through a link, and into a device or a pipe as it comes."""
     if os.path.exists(path) and not os.path.isfile(path) and not os.path.isdir(path):
         write_through(path, data)
     else:
+        folder, name = os.path.split(os.path.realpath(path) if os.path.islink(path) else path)
         write_files(folder, {name: data}, path)
 
 
-def write_through(path, data):
+def write_through(path: str, data: bytes) -> None:
     """Writes into a device or a pipe."""
     try:
         with open(path, "wb") as file:
@@ -23,84 +27,30 @@ def write_through(path, data):
         raise tool.Fault(f"{path}: {error.strerror}") from None
 
 
-def write_files(folder, files, shown=None):
+def write_files(folder: str, files: Dict[str, bytes], shown: Optional[str] = None) -> None:
     """Writes files into a folder, each by its name: all of them, or none.
 
     shown  how the folder, or the one file, is called in a fault
     """
-    names = list(files)
-    try:
-        for name in names:
-            write_beside(folder, name, files[name])
-        change_places(folder, names)
-    except OSError as error:
-        where = error.filename2 or error.filename
-        raise tool.Fault(f"{shown or real_name(where) or folder}: {error.strerror}") from None
-    finally:
-        for name in names:
-            remove(beside(folder, name, "new"))
-
-
-def beside(folder, name, what):
-    """Where a file stands until its place is free."""
-    return os.path.join(folder, f".{name}.{what}")
-
-
-def real_name(path):
-    """The name that the user knows of a file that may stand beside its place."""
-    folder, name = os.path.split(path or "")
-    return os.path.join(folder, name[1:-4]) if name.startswith(".") and name.endswith((".new", ".old")) else path
-
-
-def write_beside(folder, name, data):
-    """Writes a file beside its place."""
-    place = os.path.join(folder, name)
-    if os.path.isdir(place):
-        raise IsADirectoryError(errno.EISDIR, os.strerror(errno.EISDIR), place)
-    try:
-        with open(beside(folder, name, "new"), "wb") as file:
-            file.write(data)
-    except OSError as error:
-        raise OSError(error.errno, error.strerror, place) from None
-
-
-def change_places(folder, names):
-    """Puts new files into their places; where one can't go there, the ones before it come out again."""
-    changed = []
-    try:
-        for name in names:
-            place = os.path.join(folder, name)
-            keep(place, beside(folder, name, "old"))
-            changed.append(name)
-            os.replace(beside(folder, name, "new"), place)
-    except OSError:
-        for name in reversed(changed):
-            put_back(folder, name)
-        raise
-    for name in names:
-        remove(beside(folder, name, "old"))
-
-
-def keep(place, old):
-    """What a place has stays beside it; the place keeps it too, where the disk has links."""
-    remove(old)
-    if os.path.lexists(place):
+    with Held() as held:
         try:
-            os.link(place, old, follow_symlinks=False)
-        except (OSError, NotImplementedError):
-            os.replace(place, old)
+            exchange_all(folder, files, held)
+        except OSError as error:
+            raise tool.Fault(f"{shown or error.filename or folder}: {error.strerror}") from None
 
 
-def put_back(folder, name):
-    """A place has what it had before."""
-    place, old = os.path.join(folder, name), beside(folder, name, "old")
-    if os.path.lexists(old):
-        os.replace(old, place)
-        remove(old)     # where both are one file, it stays at both
-    else:
-        remove(place)
-
-
-def remove(path):
-    if os.path.lexists(path) and not os.path.isdir(path):
-        os.remove(path)
+def exchange_all(folder: str, files: Dict[str, bytes], held: Held) -> None:
+    """Has files change places with those of a folder; a signal or a fault has all of it undone."""
+    exchange = Exchange(folder, PREFIX)
+    try:
+        for name, data in files.items():
+            held.check()
+            exchange.put(name, data)
+        for name in files:
+            held.check()
+            exchange.change(name)
+    except BaseException:
+        exchange.undo()
+        raise
+    finally:
+        exchange.close()

@@ -2,17 +2,18 @@
 import os
 
 from . import tool
-from .tables import html_section, html_text
+from .safe_text import markup
+from .tables import html_section
 
 TEMPLATE = os.path.join(os.path.dirname(os.path.abspath(__file__)), "page.html")
 
 
 def page_of(heading, sections):
     """The page of a heading, whose first line is its title, and of sections in HTML."""
-    head = [f"<h1>{html_text(heading[0])}</h1>"] + [f"<p>{html_text(line)}</p>" for line in heading[1:]]
+    head = [f"<h1>{markup(heading[0])}</h1>"] + [f"<p>{markup(line)}</p>" for line in heading[1:]]
     before, rest = tool.read(TEMPLATE).decode().split("/*TITLE*/")
     middle, after = rest.split("/*BODY*/")
-    return before + html_text(heading[0]) + middle + "\n".join(head) + "\n" + "".join(sections) + after
+    return before + markup(heading[0]) + middle + "\n".join(head) + "\n" + "".join(sections) + after
 
 
 def tables_page(heading, tables):

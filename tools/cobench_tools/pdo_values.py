@@ -1,12 +1,13 @@
 """Values that a data sheet gives to PDO objects. cobench doesn't use them: messages make them (docs/rules/commands.md)."""
 import re
 import weakref
+from typing import List
 
 from . import tool
 from .device import Device
 
 FIRST, LAST = 0x1400, 0x1BFF
-KNOWN = weakref.WeakKeyDictionary()     # the lines of each data sheet that was gone through
+KNOWN: "weakref.WeakKeyDictionary[Device, List[int]]" = weakref.WeakKeyDictionary()     # the lines of each data sheet that was gone through
 MAY_GIVE_VALUES = re.compile(rb"(?i)parametervalue|value *\]")
 
 

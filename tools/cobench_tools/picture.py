@@ -7,22 +7,24 @@ Content of the page (JSON):
   lanes           [key, name, title] of each, the manager's first
   stateNames      the names of the states
   states          by the key of a lane: [time, state] at each change
-  sorts           what frames are: [identifier, kind, key of the lane, bytes, text]; the text of a PDO is
-                  [subject, [label, bits, form] of each value], or null for these where they aren't known
+  sorts           what frames are: [identifier, kind, key of the lane, bytes, text], and behind these the bits of what isn't
+                  of the network; the text of a PDO is [subject, [label, bits, form] of each value], or null for these
+                  where they aren't known
   windows         spans of the run: at (its start), and of its frames time (since the one before, or the
-                  start), sort and data (hexadecimal digits, one frame behind the other); and its flags
+                  start), sort and data (hexadecimal digits, one frame behind the other); and its flags; beside a
+                  plan the places of the frames that the other run doesn't have, as other
   events          the flags of the scenario; a flag is [time, key of the lane, kind, label, all of its words]
 """
 from operator import itemgetter, sub
 
-from . import meaning, tool
+from . import meaning, safe_text
 from .boots import is_boot_up
 from .device import BOOLEAN, SIGNED
-from .trace import Note, bit_time
+from .trace import Foreign, Note
 
 OTHERS = -1
 FIRST_STATE = "pre-operational"
-STATES = ("off", "stopped", "operational", "pre-operational")
+STATES = ("off", "stopped", "operational", "pre-operational", "not heard", "unknown")
 BY_BYTE = {4: "stopped", 5: "operational", 127: "pre-operational"}
 BY_SERVICE = {1: "operational", 2: "stopped", 128: "pre-operational", 129: "pre-operational", 130: "pre-operational"}
 
@@ -44,17 +46,19 @@ class Sorts:
 
     def place_of(self, line, said):
         """The place of a frame's row."""
-        key = line.identifier, said.kind, OTHERS if said.sender is None else said.sender, len(line.data), text_of(said)
+        identifier = line.number if isinstance(line, Foreign) else line.identifier
+        key = identifier, said.kind, OTHERS if said.sender is None else said.sender, len(line.data), text_of(said)
         place = self._places.setdefault(key, len(self.rows))
         if place == len(self.rows):
-            self.rows.append([key[0], meaning.KINDS.index(said.kind)] + list(key[2:]))
+            bits = [line.bits] if said.kind == meaning.OTHER else []
+            self.rows.append([key[0] or 0, meaning.KINDS.index(said.kind)] + list(key[2:]) + bits)
         return place
 
 
 def text_of(said):
     """What all frames of a sort say: of a PDO its subject, and the parts of its values, None where they aren't known."""
     if said.kind != meaning.PDO:
-        return tool.readable(said.text)
+        return safe_text.readable(said.text)
     parts = said.parts and tuple((label, bits, form_of(kind)) for label, bits, kind in said.parts)
     return said.subject, parts
 
@@ -146,6 +150,8 @@ class Drawing:
         if isinstance(line, Note):
             self.tell(window, line, self.network.of(line))
             return None
+        if isinstance(line, Foreign):
+            return self.recognise(window, line) + (line.data.hex().upper(),)
         return (self.known(line.identifier, line.data) or self.recognise(window, line)) + (line.data.hex().upper(),)
 
     def known(self, identifier, data):
@@ -188,7 +194,7 @@ def event_flag(network, key, event):
         node, label = network.manager, f"{service} {network.name(event.node) if event.node else 'all nodes'}"
         words = label
     elif event.kind == "set":
-        entry, value = entry_text(event.entry), tool.readable(event.what)
+        entry, value = entry_text(event.entry), safe_text.readable(event.what)
         label = f"{entry} := {value}"
         words = f"{entry}{network.name_text(node, event.entry)} := {value}"
     return [event.time, node, "event", label, f"event {key}: {words}"]
@@ -248,15 +254,14 @@ def events_of(project, end):
 
 
 class Picture:
-    """The content of the page, of the lines of a trace and the project that it is of, if that is known."""
+    """The content of the page, of what view.py shows."""
 
-    def __init__(self, lines, project):
-        self.project, self.bit = project, bit_time(lines, project)
-        self.network, self.sorts = meaning.Network(project, with_names=True), Sorts()
+    def __init__(self, shown):
+        self.project, self.bit, self.end = shown.project, shown.bit, shown.end
+        self.network, self.sorts = shown.network(with_names=True), Sorts()
         self.drawing = Drawing(self.network, self.sorts)
-        self.window = self.drawing.window(0, lines)
-        self.end = max(project.horizon if project else 0, lines[-1].time)
-        self.events = events_of(project, self.end)
+        self.window = self.drawing.window(0, shown.lines)
+        self.events = events_of(shown.project, self.end) if not shown.plan else []
 
     def nodes(self):
         """The nodes but the manager, by number."""
@@ -272,7 +277,7 @@ class Picture:
 
     def content(self, title):
         return {
-            "title": tool.readable(title), "script": self.project is not None, "end": self.end, "bit": self.bit,
+            "title": safe_text.readable(title), "script": self.project is not None, "end": self.end, "bit": self.bit,
             "kinds": meaning.KINDS, "stateNames": STATES, "lanes": self.lanes(),
             "states": states_of(self.nodes(), moments_of(self.events, [self.window])),
             "windows": [self.window.content()], "sorts": self.sorts.rows,

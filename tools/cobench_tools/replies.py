@@ -2,9 +2,14 @@
 import io
 import itertools
 import re
+from typing import BinaryIO, List, Optional, Sequence, Tuple
 
 from . import tool
 from .forms import bad_syntax
+from .script import Command
+
+# The bytes of replies at most: those to a script of 64 MiB that asks for many traces.
+LONGEST = 1 << 30
 
 REFUSED = re.compile(rb"refused ([1-9]) (Memory|Syntax|Range|Unknown|Taken|InUse|Limit|BadByte|Truncated)")
 LINES = re.compile(rb"lines ([0-9]{1,9})")
@@ -21,21 +26,21 @@ class Reply:
 
     __slots__ = ("number", "refused", "lines")
 
-    def __init__(self, number, refused=None, lines=None):
+    def __init__(self, number: int, refused: Optional[str] = None, lines: Optional[List[bytes]] = None) -> None:
         self.number, self.refused, self.lines = number, refused, lines
 
-    def is_accepted(self):
+    def is_accepted(self) -> bool:
         return self.refused is None
 
 
 class Session:
     """The replies of a session, whether they are cut off, and the fault that ended it, if it is told."""
 
-    def __init__(self, replies, cut, fault):
+    def __init__(self, replies: List[Reply], cut: Optional[str], fault: Optional[str]) -> None:
         self.replies, self.cut, self.fault = replies, cut, fault
 
 
-def session_of(path, text):
+def session_of(path: str, text: bytes) -> Session:
     """The replies that a text holds."""
     where, replies, number = tool.name_of(path), [], 0
     lines = io.BytesIO(text)
@@ -61,14 +66,14 @@ def session_of(path, text):
     return Session(replies, None, None)
 
 
-def answer_of(lines, count):
+def answer_of(lines: BinaryIO, count: int) -> Tuple[Optional[List[bytes]], int]:
     """The lines of an answer, None where it is cut; and how many of them are there."""
     answer = list(itertools.islice(lines, count))
     there = len(answer) - bool(answer and not answer[-1].endswith(b"\n"))
     return ([line.rstrip(b"\n").rstrip(b"\r") for line in answer] if there == count else None), there
 
 
-def edit_reply(where, number, line):
+def edit_reply(where: str, number: int, line: bytes) -> Reply:
     """The reply of a line that is `ok` or `refused N NAME`."""
     if line == b"ok":
         return Reply(number)
@@ -78,29 +83,39 @@ def edit_reply(where, number, line):
     return Reply(number, refused=tool.shown(b" ".join(refused.groups())))
 
 
-def read_session(path):
-    return session_of(path, tool.read_text(path))
+def read_text(path: str) -> bytes:
+    """The bytes of replies, or of a trace."""
+    return tool.read_text(path, LONGEST)
+
+
+def read_session(path: str) -> Session:
+    return session_of(path, read_text(path))
 
 
 QUERIES = {b"dcf", b"cdcf", b"diag", b"trace", b"project"}
 
 
-def answers(command, reply):
+def answers(command: Command, reply: Reply) -> bool:
     """Whether a reply can be that to a command: lines to a query alone, and `ok` to an edit alone."""
     if reply.refused is not None:
         return True
     if command.is_comment() or command.takes_script():
         return False
-    return (reply.lines is not None) == (command.name in QUERIES)
+    return (reply.lines is not None) == (command.name in QUERIES) and is_well_formed(command)
 
 
-def agreement(commands, session):
+def is_well_formed(command: Command) -> bool:
+    """Whether a command can be accepted by its form, so far as its words are known: those of a file may be others."""
+    return command.file is not None or command.lacks > 0 or bad_syntax(command) is None
+
+
+def agreement(commands: Sequence[Command], session: Session) -> int:
     """Of how many commands the form says whether they are refused with Syntax, as they are."""
     refused = [reply.refused == "2 Syntax" for reply in session.replies]
     return sum(is_refused == (bad_syntax(command) is not None) for command, is_refused in zip(commands, refused))
 
 
-def pairs(path, commands, raw, session):
+def pairs(path: str, commands: List[Command], raw: List[Command], session: Session) -> Tuple[List[Tuple[Command, Reply]], List[Command]]:
     """The commands of a script that have a reply, each with it, and those that have none.
 
     commands  those of the script after `expand`, which takes comments out and other scripts in
@@ -117,7 +132,7 @@ def pairs(path, commands, raw, session):
     return list(zip(readings[0], session.replies)), readings[0][given:]
 
 
-def of_different_sessions(path, commands, session):
+def of_different_sessions(path: str, commands: Sequence[Command], session: Session) -> tool.Fault:
     """The fault of replies that can't be those to a script."""
     for command, reply in zip(commands, session.replies):
         if not answers(command, reply):

@@ -1,12 +1,13 @@
 """What `check` and `export` tell of the findings of a script: as text, as JSON and as JUnit XML."""
-import html
-import json
+from typing import Any, Dict, List, Optional
+from xml.etree.ElementTree import Element, SubElement, tostring
 
-from . import boots, tool, trace
-from .findings import ERROR, WARNING, lines_of, milliseconds
+from . import boots, safe_text, tool, trace
+from .findings import ERROR, WARNING, Finding, lines_of, milliseconds
+from .session import Session
 
 
-def counted(number, what):
+def counted(number: int, what: str) -> str:
     """A number of things: `1 error`, `no errors`."""
     return f"{number or 'no'} {what}{'' if number == 1 else 's'}"
 
@@ -20,49 +21,49 @@ class Report:
     `all_boots` are the boots of each node, where they are known already.
     """
 
-    def __init__(self, answered, findings, all_boots=None):
+    def __init__(self, answered: Session, findings: List[Finding], all_boots: Optional[Dict[int, List[Any]]] = None) -> None:
         self.answered, self.findings = answered, findings
         self.open = [finding for finding in findings if not finding.accepted]
         if all_boots is None:
-            all_boots = boots.boots_of(trace.trace_of(answered.lines("trace")))
+            all_boots = boots.boots_of(trace.of_answer(answered.lines("trace")))
         ends = {node: [boot.end for boot in all_boots.get(node, []) if boot.is_configured()] for node in answered.project.nodes}
         self.booted = {node: times[0] for node, times in sorted(ends.items()) if times}
 
-    def count(self, severity):
+    def count(self, severity: str) -> int:
         return sum(finding.severity == severity for finding in self.open)
 
     @property
-    def status(self):
+    def status(self) -> int:
         return tool.FOUND if self.count(ERROR) else tool.DONE
 
-    def summary(self):
+    def summary(self) -> str:
         """What there is, in one line: `1 error, no warnings; 3 of 3 nodes booted by 60.244 ms`."""
         accepted = len(self.findings) - len(self.open)
         words = [counted(self.count(ERROR), "error"), counted(self.count(WARNING), "warning")]
         words += [f"{accepted} accepted"] if accepted else []
         return f"{', '.join(words)}; {self.boots_text()}"
 
-    def boots_text(self):
+    def boots_text(self) -> str:
         """How many nodes booted, and when the last of them was configured."""
         nodes = len(self.answered.project.nodes)
         by = f" by {milliseconds(max(self.booted.values()))}" if self.booted else ""
         return f"{len(self.booted)} of {counted(nodes, 'node')} booted{by}" if nodes else "no nodes"
 
-    def as_text(self):
+    def as_text(self) -> str:
         return "".join(f"{line}\n" for line in lines_of(self.open) + [self.summary()])
 
-    def as_json(self, **more):
+    def as_json(self, **more: Any) -> str:
         """All of it for programs, accepted findings too, with what else there is to tell."""
         findings = [json_of(finding) for finding in self.findings]
         nodes = [{"node": node, "name": name, "configured_us": self.booted.get(node)}
                  for node, (name, _) in sorted(self.answered.project.nodes.items())]
         whole = {"script": self.answered.path, "status": self.status, "errors": self.count(ERROR),
                  "warnings": self.count(WARNING), "findings": findings, "nodes": nodes, **more}
-        return json.dumps(whole, indent=1) + "\n"
+        return safe_text.as_json(whole)
 
     # JUnit XML: a test case for each part of the project, which fails where it has an error.
 
-    def parts(self):
+    def parts(self) -> List[str]:
         """The parts of the project, those with findings that it hasn't among them."""
         project = self.answered.project
         names = ["commands", "identifiers"] + [f"eds {name}" for name in sorted(project.texts)]
@@ -70,39 +71,31 @@ class Report:
         names += [f"event {number}" for number in sorted(project.events)]
         return names + sorted({finding.part for finding in self.open} - set(names))
 
-    def as_junit(self):
+    def as_junit(self) -> str:
         """The report for servers of continuous integration."""
-        cases = [self.case(part) for part in self.parts()]
-        failed = sum("<failure" in case for case in cases)
-        suite = f"name={xml_attribute(self.answered.path)} tests=\"{len(cases)}\" failures=\"{failed}\" errors=\"0\""
-        return f"<?xml version=\"1.0\" encoding=\"UTF-8\"?>\n<testsuites>\n<testsuite {suite}>\n{''.join(cases)}</testsuite>\n</testsuites>\n"
+        script = safe_text.readable(self.answered.path)
+        suites = Element("testsuites")
+        suite = SubElement(suites, "testsuite", name=script)
+        cases = [self.add_case(suite, script, part) for part in self.parts()]
+        suite.attrib.update(tests=str(len(cases)), failures=str(len(suite.findall("testcase/failure"))), errors="0")
+        return f'<?xml version="1.0" encoding="UTF-8"?>\n{tostring(suites, encoding="unicode")}\n'
 
-    def case(self, part):
+    def add_case(self, suite: Element, script: str, part: str) -> Element:
         """The test case of a part of the project."""
         mine = [finding for finding in self.open if finding.part == part]
         errors = lines_of([finding for finding in mine if finding.severity == ERROR])
         others = lines_of([finding for finding in mine if finding.severity != ERROR])
-        inside = f"<failure message={xml_attribute(errors[0])}>{xml_text(errors)}</failure>" if errors else ""
-        inside += f"<system-out>{xml_text(others)}</system-out>" if others else ""
-        return f"<testcase classname={xml_attribute(self.answered.path)} name={xml_attribute(part)}>{inside}</testcase>\n"
+        case = SubElement(suite, "testcase", classname=script, name=safe_text.readable(part))
+        if errors:
+            SubElement(case, "failure", message=errors[0]).text = "\n".join(errors)
+        if others:
+            SubElement(case, "system-out").text = "\n".join(others)
+        return case
 
 
-def json_of(finding):
+def json_of(finding: Finding) -> Dict[str, Any]:
     """A finding as a record."""
-    notes = [{"file": place.path, "line": place.line, "text": tool.readable(text)} for place, text in finding.notes]
+    notes = [{"file": place.path, "line": place.line, "text": safe_text.readable(text)} for place, text in finding.notes]
     return {"file": finding.place.path, "line": finding.place.line, "severity": finding.severity, "code": finding.code,
-            "words": tool.readable(finding.words), "part": finding.part, "who": finding.who,
-            "text": tool.readable(finding.text), "notes": notes, "accepted": finding.accepted}
-
-
-def without_controls(text):
-    """A text without the characters that XML can't have."""
-    return "".join(letter if letter >= " " and not "\ud800" <= letter <= "\udfff" and letter < "\ufffe" else "?" for letter in text)
-
-
-def xml_text(lines):
-    return "\n".join(html.escape(without_controls(line), quote=False) for line in lines)
-
-
-def xml_attribute(text):
-    return f'"{html.escape(without_controls(text))}"'
+            "words": safe_text.readable(finding.words), "part": finding.part, "who": finding.who,
+            "text": safe_text.readable(finding.text), "notes": notes, "accepted": finding.accepted}

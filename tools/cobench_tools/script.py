@@ -7,6 +7,7 @@ blocks alone. FILE is looked for from the folder of the script that names it, an
 import functools
 import os
 import re
+from typing import Callable, Iterator, List, Optional, Sequence, Tuple
 
 from . import tool
 
@@ -37,79 +38,80 @@ class Command:
 
     __slots__ = ("path", "number", "line", "block", "lacks", "file")
 
-    def __init__(self, path, number, line):
+    def __init__(self, path: str, number: int, line: bytes) -> None:
         self.path, self.number, self.line = path, number, line
-        self.block, self.lacks, self.file = None, 0, None
+        self.block: Optional[List[bytes]] = None
+        self.lacks, self.file = 0, None  # type: int, Optional[str]
 
     @property
-    def words(self):
+    def words(self) -> List[bytes]:
         return list(words_in(self.line))
 
     @property
-    def name(self):
+    def name(self) -> bytes:
         """Its first word."""
         return words_in(self.line)[0]
 
     @property
-    def shown_words(self):
+    def shown_words(self) -> Tuple[str, ...]:
         """Its words as texts."""
         return shown_words_in(self.line)
 
     @property
-    def place(self):
+    def place(self) -> tool.Place:
         """FILE:LINE."""
         return tool.Place(self.path, self.number)
 
-    def block_place(self, number):
+    def block_place(self, number: int) -> tool.Place:
         """FILE:LINE of a line of its block, counted from 1."""
         if self.file is not None:
             return tool.Place(beside(self.path, self.file), number)
         return tool.Place(self.path, self.number + number)
 
-    def is_comment(self):
+    def is_comment(self) -> bool:
         return self.line.lstrip(b" \t").startswith(b"#")
 
-    def takes_script(self):
+    def takes_script(self) -> bool:
         """Whether it takes in the commands of another script."""
         return self.line.lstrip(b" \t").startswith(b"<")
 
-    def text(self):
+    def text(self) -> bytes:
         """The command and its block as the program takes them."""
         if self.file is not None and self.block is not None:
             return block_of(self.words[1], self.block)
         return b"".join(line + b"\n" for line in [self.line] + (self.block or []))
 
-    def text_from(self, place):
+    def text_from(self, place: int) -> bytes:
         """The rest of the line from the word at a place on, without blanks at its end."""
         return text_in(self.line, place)
 
 
 @functools.lru_cache(maxsize=MOST_KNOWN)
-def words_in(line):
-    """The words of a line, read once as long as it is known."""
-    return tuple(WORD.findall(line))
+def words_in(line: bytes) -> Tuple[bytes, ...]:
+    """The words of a line, read once as long as it is known; that of a line of too many blanks is empty."""
+    return tuple(WORD.findall(line)) or (b"",)
 
 
 @functools.lru_cache(maxsize=MOST_KNOWN)
-def shown_words_in(line):
+def shown_words_in(line: bytes) -> Tuple[str, ...]:
     """The words of a line as texts."""
     return tuple(map(tool.shown, words_in(line)))
 
 
 @functools.lru_cache(maxsize=MOST_KNOWN)
-def text_in(line, place):
+def text_in(line: bytes, place: int) -> bytes:
     """The rest of a line from the word at a place on, without blanks at its end."""
     rest = re.match(rb"[ \t]*(?:[^ \t]+[ \t]+){%d}(.*)" % place, line, re.DOTALL)
     return rest.group(1).rstrip(b" \t") if rest else b""
 
 
-def beside(path, file):
+def beside(path: str, file: str) -> str:
     """A file that a script names, looked for from the script's folder; never the standard input."""
     folder = "" if path == "-" else os.path.dirname(path)
     return os.path.join(folder or ("." if file == "-" else ""), file)
 
 
-def lines_of(text):
+def lines_of(text: bytes) -> List[bytes]:
     """The lines of a text with the CRs at their ends, as the program counts them: the last may have no LF."""
     lines = text.split(b"\n")
     if not lines[-1]:
@@ -117,28 +119,28 @@ def lines_of(text):
     return lines
 
 
-def is_blank(line):
+def is_blank(line: bytes) -> bool:
     """Whether the program skips a line."""
     return not line.strip(b" \t") and len(line) <= LONGEST_LINE
 
 
-def number_of(word):
+def number_of(word: bytes) -> Optional[int]:
     """What a decimal number of 1 to 10 digits is, else None."""
     return int(word) if re.fullmatch(rb"[0-9]{1,10}", word) else None
 
 
-def lines_wanted(words):
+def lines_wanted(words: Sequence[bytes]) -> Optional[int]:
     """How many lines the block of an `eds NAME LINES` with these words has, else None."""
     number = number_of(words[2]) if len(words) == 3 else None
     return number if number is not None and number <= MOST_LINES else None
 
 
-def file_behind(text):
+def file_behind(text: bytes) -> str:
     """FILE in `<FILE`, without a comment behind it."""
     return tool.shown(re.split(rb"[ \t]#", text[1:], 1)[0].strip(b" \t"))
 
 
-def block_from(text, start, wanted):
+def block_from(text: bytes, start: int, wanted: int) -> Tuple[List[bytes], int]:
     """The lines of a block that begins there, at most as many as are wanted, and where they end."""
     end = start
     for _ in range(wanted):
@@ -148,7 +150,7 @@ def block_from(text, start, wanted):
     return [line.rstrip(b"\r") for line in lines_of(text[start:end])], end
 
 
-def special_from(text, start, path, number):
+def special_from(text: bytes, start: int, path: str, number: int) -> Tuple[Command, int]:
     """The command in the line that begins there, with its block or FILE, and where its lines end."""
     end = text.find(b"\n", start) + 1 or len(text)
     command = Command(path, number, text[start:end].rstrip(b"\n").rstrip(b"\r"))
@@ -157,14 +159,15 @@ def special_from(text, start, path, number):
         command.file = file_behind(command.text_from(0))
     elif words[0] == b"eds" and len(words) > 2 and words[2].startswith(b"<"):
         command.file = file_behind(command.text_from(2))
-    elif words[0] == b"eds" and lines_wanted(words) is not None:
-        wanted = lines_wanted(words)
-        command.block, end = block_from(text, end, wanted)
-        command.lacks = wanted - len(command.block)
+    else:
+        wanted = lines_wanted(words) if words[0] == b"eds" else None
+        if wanted is not None:
+            command.block, end = block_from(text, end, wanted)
+            command.lacks = wanted - len(command.block)
     return command, end
 
 
-def specials(text, path):
+def specials(text: bytes, path: str) -> Iterator[Tuple[Command, int, int]]:
     """The commands that are comments, take a file in or have a block: each with where its lines start and end."""
     place, number = 0, 1
     found = SPECIAL.search(text)
@@ -177,7 +180,7 @@ def specials(text, path):
         found = SPECIAL.search(text, place)
 
 
-def plain_commands(text, path, number):
+def plain_commands(text: bytes, path: str, number: int) -> List[Command]:
     """The commands of lines without anything special, the first of which has this number."""
     if text.count(b"\n") > MOST_COMMANDS:
         raise tool.Fault(f"{tool.name_of(path)}: it has over {MOST_COMMANDS:,} commands, and cobtool takes no more")
@@ -185,7 +188,7 @@ def plain_commands(text, path, number):
     return [Command(path, each, line) for each, line in lines if not is_blank(line)]
 
 
-def commands_of(text, path="-"):
+def commands_of(text: bytes, path: str = "-") -> List[Command]:
     """The commands of a script as it stands, comments among them."""
     commands, place, number = [], 0, 1
     for command, start, end in specials(text, path):
@@ -195,7 +198,7 @@ def commands_of(text, path="-"):
     return commands + plain_commands(text[place:], path, number)
 
 
-def why_no_eds(text):
+def why_no_eds(text: bytes) -> Optional[str]:
     """Why the program would refuse an `eds` block of this text, or None."""
     count = text.count(b"\n") + (not text.endswith(b"\n") and text != b"")
     if count > MOST_LINES:
@@ -213,13 +216,13 @@ def why_no_eds(text):
     return None
 
 
-def why_no_lines(text):
+def why_no_lines(text: bytes) -> Optional[str]:
     """Why a text has no lines, or None: they end by CR alone."""
     ends = text.rstrip(b"\r")
     return "its lines end by CR alone; save it with LF or CR LF" if b"\r" in ends and b"\n" not in ends else None
 
 
-def eds_lines(name, path, read_text=tool.read_text):
+def eds_lines(name: bytes, path: str, read_text: Callable[[str], bytes] = tool.read_text) -> List[bytes]:
     """The lines of a file that an `eds` block can have, without the CRs at their ends.
 
     The byte 1Ah by which DOS ended texts is left out where it stands last.
@@ -233,12 +236,12 @@ def eds_lines(name, path, read_text=tool.read_text):
 
 
 @functools.lru_cache(maxsize=MOST_SHEETS)
-def lines_of_eds(text):
+def lines_of_eds(text: bytes) -> Tuple[Optional[str], List[bytes]]:
     """Why a text is no data sheet, or None, and its lines, which nobody changes: the same each time."""
     text = text.rstrip(DOS_END)
     return why_no_lines(text) or why_no_eds(text), [line.rstrip(b"\r") for line in lines_of(text)]
 
 
-def block_of(name, lines):
+def block_of(name: bytes, lines: Sequence[bytes]) -> bytes:
     """The `eds` command of these lines."""
     return b"".join([b"eds %s %d\n" % (name, len(lines))] + [line + b"\n" for line in lines])

@@ -1,8 +1,10 @@
 """A session of cobench over a script: what the program answers, each reply with the command that it is to."""
+import argparse
 import os
 import shlex
 import shutil
 import subprocess
+from typing import Callable, Dict, List, Optional, Sequence, Tuple
 
 from . import project, reader, replies, script, tool
 
@@ -16,13 +18,17 @@ stands in."""
 
 OF_A_NODE = ("dcf", "cdcf")
 
+Pairs = List[Tuple[script.Command, replies.Reply]]
+Answers = Dict[str, Optional[List[bytes]]]
+Part = Callable[[List[script.Command]], List[script.Command]]
 
-def add_arguments(parser):
+
+def add_arguments(parser: argparse.ArgumentParser) -> None:
     """The word that chooses the program."""
     parser.add_argument("--cobench", metavar="PROGRAM", help="the program to run, with its words")
 
 
-def program(given):
+def program(given: Optional[str]) -> List[str]:
     """The words that start cobench."""
     chosen = os.environ.get("COBENCH") if given is None else given
     if chosen:
@@ -30,11 +36,12 @@ def program(given):
     found = shutil.which("cobench") or (BUILT if os.access(BUILT, os.X_OK) else None)
     if not found:
         built = f" or at {BUILT}" if os.path.isdir(os.path.join(ROOT, "crates")) else ""
-        raise tool.Fault(f"no cobench on the path{built}; --cobench PROGRAM or the variable COBENCH names one")
+        raise tool.Fault(f"no cobench on the path{built}; --cobench PROGRAM or the variable COBENCH names one, and "
+                         "README.md, under Install, says how to get it")
     return [found]
 
 
-def words_of(chosen):
+def words_of(chosen: str) -> List[str]:
     """The words of a program that the user chose."""
     try:
         words = shlex.split(chosen)
@@ -45,7 +52,7 @@ def words_of(chosen):
     return words
 
 
-def replies_to(words, text):
+def replies_to(words: List[str], text: bytes) -> List[replies.Reply]:
     """The replies that a program writes for an input."""
     try:
         done = subprocess.run(words, input=text, stdout=subprocess.PIPE, stderr=subprocess.PIPE)
@@ -69,24 +76,28 @@ class Session:
     answers  the lines that each query answers
     """
 
-    def __init__(self, path, pairs, answers):
+    def __init__(self, path: str, pairs: Pairs, answers: Answers) -> None:
         self.path, self.pairs, self.answers = path, pairs, answers
         self.project = project.after(pairs)
 
-    def lines(self, query, node=None):
+    def lines(self, query: str, node: Optional[int] = None) -> List[bytes]:
         """What a query that was asked for answers at the end of the script: its lines."""
-        return self.answers[query if node is None else f"{query} {node}"]
+        asked = query if node is None else f"{query} {node}"
+        found = self.answers[asked]
+        if found is None:
+            raise tool.Fault(f"cobench refused {asked}")
+        return found
 
 
-def queries_of(names, commands):
+def queries_of(names: Sequence[str], commands: Sequence[script.Command]) -> List[str]:
     """The queries of these names: those of a node for each node that the script may make."""
-    nodes = {script.number_of(command.words[1]) for command in commands
-             if command.name == b"node" and len(command.words) > 1}
+    words = [command.words[1] for command in commands if command.name == b"node" and len(command.words) > 1]
+    nodes = {number for number in map(script.number_of, words) if number is not None}
     asked = [name for name in names if name not in OF_A_NODE]
-    return asked + [f"{name} {node}" for node in sorted(nodes - {None}) for name in names if name in OF_A_NODE]
+    return asked + [f"{name} {node}" for node in sorted(nodes) for name in names if name in OF_A_NODE]
 
 
-def run(path, given=None, names=(), part=None):
+def run(path: str, given: Optional[str] = None, names: Sequence[str] = (), part: Optional[Part] = None) -> Session:
     """The session of a script, by the program that `--cobench` gave; `names` are those of queries to ask behind it.
 
     part  takes the commands of the script, and gives those that are wanted

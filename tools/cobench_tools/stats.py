@@ -7,7 +7,7 @@ an SDO frame not before the one that it follows on.
 """
 from . import boots, meaning
 from .tables import Table
-from .trace import Frame, bit_time
+from .trace import Frame, Note
 
 SYNC, SDO = 0x080, (0x580, 0x600)
 WINDOW = 10_000
@@ -39,8 +39,8 @@ class Spread:
 class Identifier:
     """What there is to tell of an identifier: its frames, the time that they took, its periods and its waits."""
 
-    def __init__(self, what):
-        self.what, self.count, self.busy, self.last = what, 0, 0, None
+    def __init__(self, shown, what):
+        self.shown, self.what, self.count, self.busy, self.last = shown, what, 0, 0, None
         self.periods, self.waits = Spread(), Spread()
 
     def add(self, time, took, wait):
@@ -66,7 +66,7 @@ class Bus:
 
     def add(self, frame):
         """Takes a frame, the next one; how long it may have waited."""
-        start = frame.time - frame.bits * self.bit
+        start = max(frame.time - frame.bits * self.bit, min(self.last, frame.time), 0)
         if start > self.last:
             self.since, self.higher = start, []
         while self.higher and self.higher[-1][0] <= frame.identifier:
@@ -80,6 +80,8 @@ class Bus:
     def _follows(self, frame):
         """When the frame was there that an SDO frame follows on, 0 for any other."""
         node, service = frame.identifier & 0x7F, frame.identifier & 0x780
+        if not isinstance(frame, Frame):
+            return 0
         before = self.said.get(node, 0) if service in SDO else 0
         if service in SDO or boots.is_boot_up(frame):
             self.said[node] = frame.time
@@ -101,26 +103,26 @@ class Stats:
     pdos         how many PDOs these are
     """
 
-    def __init__(self, lines, project):
-        self.lines, self.project, self.bit = lines, project, bit_time(lines, project)
-        self.network, self.bus = meaning.Network(project), Bus(self.bit)
+    def __init__(self, shown):
+        self.lines, self.bit, self.end, self.is_recorded = shown.lines, shown.bit, shown.end, shown.plan is not None
+        self.network, self.bus = shown.network(), Bus(self.bit)
         self.identifiers = {}
         self.periods, self.delays, self.pdos = Spread(), Spread(), Spread()
         self._sync, self._last, self._count = None, None, 0
-        for line in lines:
+        for line in self.lines:
             said = self.network.of(line)
-            if isinstance(line, Frame):
+            if not isinstance(line, Note):
                 self._take(line, said)
         self._end_sync()
 
     def _take(self, frame, said):
-        known = self.identifiers.setdefault(frame.identifier, Identifier(self.what(said)))
+        known = self.identifiers.setdefault(frame.order, Identifier(frame.shown, self.what(said)))
         known.add(frame.time, frame.bits * self.bit, self.bus.add(frame))
         self._follow(frame, said)
 
     def what(self, said):
         """What frames of an identifier are, in words."""
-        if said.kind == meaning.PDO:
+        if said.kind in (meaning.PDO, meaning.OTHER):
             return said.subject
         direction = "" if said.kind != meaning.SDO else " request" if said.sender == self.network.manager else " answer"
         name = "" if said.kind in (meaning.NMT, meaning.SYNC) or said.node is None else f"{self.network.name(said.node)} "
@@ -128,7 +130,7 @@ class Stats:
 
     def _follow(self, frame, said):
         """Looks which PDOs follow a SYNC while the bus is busy."""
-        if frame.identifier == SYNC:
+        if said.kind == meaning.SYNC:
             if self._sync is not None:
                 self.periods.add(frame.time - self._sync, frame.time)
             self._end_sync()
@@ -144,10 +146,6 @@ class Stats:
             self.pdos.add(self._count, self._sync)
             if self._last is not None:
                 self.delays.add(self._last - self._sync, self._sync)
-
-    @property
-    def end(self):
-        return self.project.horizon if self.project else self.lines[-1].time
 
     def share(self, busy, time):
         """Of how much of a time the bus is busy, in per cent."""
@@ -165,14 +163,14 @@ class Stats:
 
     def identifiers_table(self):
         columns = ["COB-ID", "What", "Frames", "Bus [%]", "Period [ms]: least", "mean", "greatest", "Waited at most [ms]", "at [ms]"]
-        rows = [[f"{number:03X}h", each.what, each.count, self.share(each.busy, self.end), *each.periods.cells(),
+        rows = [[each.shown + "h" * (each.shown != "-"), each.what, each.count, self.share(each.busy, self.end), *each.periods.cells(),
                  milliseconds(each.waits.greatest), milliseconds(each.waits.moment)]
-                for number, each in sorted(self.identifiers.items())]
+                for _, each in sorted(self.identifiers.items())]
         return Table("identifiers", "Identifiers", columns, rows)
 
     def boots_table(self):
         rows = []
-        for node, several in sorted(boots.boots_of(self.lines).items()):
+        for node, several in sorted(boots.boots_of(self.lines, self.is_recorded).items()):
             if node != self.network.manager:
                 rows += [[node, self.network.name(node), milliseconds(boot.start), milliseconds(boot.end),
                           milliseconds(boot.end - boot.start) if boot.end else NONE, boot.what or "not over"] for boot in several]

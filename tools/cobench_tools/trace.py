@@ -1,9 +1,15 @@
 """The lines of a trace, and the traces among the replies of a session."""
+import argparse
 import functools
 import io
 import re
+from typing import TYPE_CHECKING, Iterable, List, Optional, Sequence, Tuple, Union
 
 from . import replies, tool
+from .logs.rows import EXTENDED, GREATEST
+
+if TYPE_CHECKING:
+    from .project import Project
 
 TIME = re.compile(rb"[0-9]{10} ")
 FRAME = re.compile(rb"([0-7][0-9A-F]{2}) \[([0-8])\]((?: [0-9A-F]{2})*)")
@@ -11,6 +17,7 @@ NOTE = re.compile(rb"([0-9]{10}) note ([0-9]{1,3}) (configured|lost|failed (?:[0
 
 # Microseconds a bit, by the bit rates that there are; the bits of a frame without its bytes.
 BIT_TIMES = (1, 2, 4, 8, 20, 50, 100)
+BIT_RATES = [1000 // each for each in BIT_TIMES]
 FRAME_BITS = 47
 
 # The second of power-on in a log: readers as log2asc take second 0 for a log that has not begun.
@@ -20,35 +27,72 @@ LOG_START = 1
 class Frame:
     """A frame on the bus: the time in microseconds at which it was there whole, its identifier and bytes."""
 
-    def __init__(self, time, identifier, data):
+    def __init__(self, time: int, identifier: int, data: bytes) -> None:
         self.time, self.identifier, self.data = time, identifier, data
 
     @property
-    def bits(self):
+    def bits(self) -> int:
         """For how many bits it has the bus."""
         return FRAME_BITS + 8 * len(self.data)
 
-    def line(self):
+    @property
+    def shown(self) -> str:
+        """Its identifier as text."""
+        return f"{self.identifier:03X}"
+
+    @property
+    def order(self) -> Tuple[bool, int, str]:
+        """The place of its identifier among those of a table."""
+        return False, self.identifier, ""
+
+    def line(self) -> str:
         data = "".join(f" {byte:02X}" for byte in self.data)
         return f"{self.time:010} {self.identifier:03X} [{len(self.data)}]{data}"
+
+
+class Foreign:
+    """What a recording has besides the frames of the network: a frame of 29 bits, a remote frame, an error frame.
+
+    kind        which of these, as logs/rows.py names it
+    number      its identifier, None where it has none
+    identifier  the bits of it by which it wins the bus as one of 11 bits does
+    """
+
+    def __init__(self, time: int, kind: str, number: Optional[int], data: bytes, bits: int) -> None:
+        self.time, self.kind, self.number, self.data, self.bits = time, kind, number, data, bits
+        self.identifier = 0 if number is None else number >> 18 if self.is_long() else number
+
+    def is_long(self) -> bool:
+        return self.number is not None and (self.kind == EXTENDED or self.number > GREATEST)
+
+    @property
+    def shown(self) -> str:
+        return "-" if self.number is None else f"{self.number:08X}" if self.is_long() else f"{self.number:03X}"
+
+    @property
+    def order(self) -> Tuple[bool, int, str]:
+        return True, self.number or 0, self.kind
 
 
 class Note:
     """What the manager notes of a node."""
 
-    def __init__(self, time, node, what):
+    def __init__(self, time: int, node: int, what: str) -> None:
         self.time, self.node, self.what = time, node, what
 
 
+Line = Union[Frame, Foreign, Note]
+
+
 @functools.lru_cache(maxsize=1 << 16)
-def frame_behind(text):
+def frame_behind(text: bytes) -> Optional[Tuple[int, bytes]]:
     """Identifier and bytes of a frame whose line has this text behind its time, else None."""
     frame = FRAME.fullmatch(text)
     data = bytes.fromhex(frame.group(3).decode()) if frame else b""
     return (int(frame.group(1), 16), data) if frame and len(data) == int(frame.group(2)) else None
 
 
-def line_of(line):
+def line_of(line: bytes) -> Optional[Line]:
     """The frame or note of a line, else None."""
     frame = frame_behind(line[11:]) if TIME.match(line) else None
     if frame:
@@ -57,13 +101,26 @@ def line_of(line):
     return Note(int(note.group(1)), int(note.group(2)), note.group(3).decode()) if note else None
 
 
-def trace_of(lines):
+def trace_of(lines: Iterable[bytes]) -> Optional[List[Line]]:
     """The frames and notes of these lines, or None where they are no trace, as the files that `dcf` prints."""
-    found = [line_of(line) for line in lines]
-    return None if None in found else found
+    found = []
+    for line in lines:
+        read = line_of(line)
+        if read is None:
+            return None
+        found.append(read)
+    return found
 
 
-def bit_time(lines, project):
+def of_answer(lines: Iterable[bytes]) -> List[Line]:
+    """The trace that cobench answered."""
+    found = trace_of(lines)
+    if found is None:
+        raise tool.Fault("cobench's answer to trace has a line that is none of a trace")
+    return found
+
+
+def bit_time(lines: Sequence[Line], project: "Optional[Project]") -> int:
     """Microseconds a bit: by the bit rate, or by the first frame, which starts at 0."""
     if project:
         return 1000 // project.bitrate
@@ -72,16 +129,16 @@ def bit_time(lines, project):
     return int(time) if time in BIT_TIMES else 1
 
 
-def frames_of(lines):
+def frames_of(lines: Iterable[Line]) -> List[Tuple[int, int, bytes]]:
     """The frames of a trace: the time, identifier and bytes of each."""
     return [(line.time, line.identifier, line.data) for line in lines if isinstance(line, Frame)]
 
 
-def is_session(text):
+def is_session(text: bytes) -> bool:
     return re.match(rb"(ok|refused [1-9] [A-Za-z]+|lines [0-9]+)\r?(\n|$)", text) is not None
 
 
-def traces_of(path, text):
+def traces_of(path: str, text: bytes) -> List[List[Line]]:
     """The traces that a text has: the lines of one, or the replies of a session with some."""
     where = tool.name_of(path)
     if is_session(text):
@@ -94,13 +151,14 @@ def traces_of(path, text):
     for number, line in enumerate(io.BytesIO(text), 1):
         if not line.endswith(b"\n"):
             raise tool.Fault(f"{where}:{number}: the last line is cut")
-        found.append(line_of(line.rstrip(b"\n").rstrip(b"\r")))
-        if found[-1] is None:
+        read = line_of(line.rstrip(b"\n").rstrip(b"\r"))
+        if read is None:
             raise tool.Fault(f"{where}:{number}: this is no line of a trace: {tool.shown(line[:60].rstrip())}")
+        found.append(read)
     return [found] if found else []
 
 
-def pick(path, traces, wanted):
+def pick(path: str, traces: List[List[Line]], wanted: Optional[int]) -> List[Line]:
     """The wanted trace, counted from 1; without a wish the first one, with a warning where there are more."""
     if not traces:
         raise tool.Fault(f"{tool.name_of(path)}: there is no trace with lines in it")
@@ -111,6 +169,6 @@ def pick(path, traces, wanted):
     return traces[(wanted or 1) - 1]
 
 
-def add_arguments(parser):
+def add_arguments(parser: argparse.ArgumentParser) -> None:
     """The word that chooses a trace."""
     parser.add_argument("--trace", metavar="N", type=int, help="take the Nth trace of the session, not the first")

@@ -1,5 +1,5 @@
 """From which moment on the traces of two networks differ, in words."""
-from . import meaning, tool, trace
+from . import meaning, safe_text, trace
 from .findings import milliseconds
 
 
@@ -22,7 +22,7 @@ def told(side, lines, place):
     read = trace.trace_of(lines[:place + 1])
     said = [network.of(line) for line in read][-1]
     identifier = "" if isinstance(read[-1], trace.Note) else f"{read[-1].identifier:03X} "
-    return tool.readable(f"{milliseconds(read[-1].time)}: {identifier}{said.text}")
+    return safe_text.readable(f"{milliseconds(read[-1].time)}: {identifier}{said.text}")
 
 
 def time_of(line):

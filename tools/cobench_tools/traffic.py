@@ -1,24 +1,27 @@
 """What a network sends once it is operational: each identifier, how long its frames are, and how often they come."""
 from . import matrix, values
 from .device import object_name
+from .responses import LONGEST_BUSY
 from .wiring import TPDO
 
-SYNC, HEARTBEAT = 0x080, 0x700
+SYNC, EMCY, SDO, HEARTBEAT = 0x080, 0x080, 0x580, 0x700
 EVENT_TYPES = 254, 255
+LONGEST = 8     # bytes
 UNSIGNED16 = 0x06
 
-# Bits of a frame without its bytes: fields and intermission; and those that, with its bytes, can have stuff bits.
-FIXED_BITS, STUFFED_BITS = 47, 34
+# Bits of a frame without its bytes: fields and intermission; and those that, with its bytes, can have stuff bits. The
+# second ones are those of a frame whose identifier has 29 bits.
+FIXED_BITS, STUFFED_BITS = (47, 67), (34, 54)
 
 
-def plain_bits(size):
+def plain_bits(size, is_extended=False):
     """The bits of a frame without stuff bits."""
-    return FIXED_BITS + 8 * size
+    return FIXED_BITS[is_extended] + 8 * size
 
 
-def most_bits(size):
+def most_bits(size, is_extended=False):
     """The bits of a frame with the most stuff bits."""
-    return plain_bits(size) + (STUFFED_BITS + 8 * size - 1) // 4
+    return plain_bits(size, is_extended) + (STUFFED_BITS[is_extended] + 8 * size - 1) // 4
 
 
 class Traffic:
@@ -33,12 +36,29 @@ class Traffic:
     syncs        with how many SYNC messages they come, 0 for other frames
     comes        how often they come, in words
     tpdo         the TPDO that sends them, None for other frames
+    jitter       how much sooner than by their period they may come, beside that of SYNC
+    is_extended  whether their identifier has 29 bits
+    is_once      whether one comes, and no other for as long as anybody waits: an emergency, an SDO frame
+    is_foreign   whether they are none of the network's
     """
+
+    is_extended = is_once = is_foreign = False
+    jitter = 0
 
     def __init__(self, identifier, part, name, sender, size, period, comes):
         self.identifier, self.part, self.name, self.sender = identifier, part, name, sender
         self.size, self.period, self.comes = size, period, comes
         self.syncs, self.tpdo, self.is_assumed = 0, None, False
+
+    @property
+    def priority(self):
+        """By what the bus decides: of an equal start an identifier of 11 bits goes first."""
+        rest = 1 << 18 | self.identifier & 0x3FFFF if self.is_extended else 0
+        return (self.identifier >> 18 if self.is_extended else self.identifier) << 19 | rest
+
+    def has_deadline(self):
+        """Whether they have to be there within some time."""
+        return self.period is not None and not self.is_once and not self.is_foreign
 
     def is_of_sync(self):
         """Whether SYNC sends them."""
@@ -49,14 +69,36 @@ class Traffic:
         return bool(self.tpdo and not self.is_of_sync() and self.tpdo.event and not self.tpdo.inhibit)
 
 
-def traffic_of(network, assumed=None):
-    """All frames of a network by identifier; `assumed` are the microseconds for those that nothing bounds."""
+def traffic_of(network, assumed=None, foreign=()):
+    """All frames by priority; `assumed` are the microseconds for those without a bound, `foreign` those of others."""
     found = [sync(network)] + heartbeats(network) + [pdo(network, tpdo) for tpdo in network.tpdos]
     found = [each for each in found if each]
     for each in found:
         if each.period is None and assumed:
             each.period, each.is_assumed = assumed, True
-    return sorted(found, key=lambda each: (each.identifier, each.sender))
+    found += emergencies(network) + sdo(network) + list(foreign)
+    return sorted(found, key=lambda each: (each.priority, each.sender or 0))
+
+
+def emergencies(network):
+    """An emergency message of each node: at worst all of them come at once, as where the manager falls silent."""
+    return [once(EMCY + number, ("node", number), f"EMCY of {network.name(number)}", number,
+                 "an emergency of each node at once")
+            for number in sorted(network.nodes)]
+
+
+def sdo(network):
+    """One SDO frame of the manager, as long as there are: it may have started just before any other."""
+    nodes = sorted(network.nodes)[:1]
+    manager = network.project.manager[0]
+    return [once(SDO + number, ("manager",), "SDO", manager, "one frame at a time") for number in nodes]
+
+
+def once(identifier, part, name, sender, comes):
+    """A frame of the greatest length that comes once."""
+    found = Traffic(identifier, part, name, sender, LONGEST, LONGEST_BUSY, comes)
+    found.is_once = True
+    return found
 
 
 def sync(network):

@@ -3,16 +3,11 @@ import re
 
 from . import ini, values
 from .device import BITS, VISIBLE_STRING
-from .project import hexadecimal
+from .digits import hexadecimal
+from .safe_text import shortened
 from .wiring import COMMUNICATION, EXTENDED, MOST_PDOS, OFF, TPDO
 
 U8, U16, U32 = 0x05, 0x06, 0x07
-
-
-def shortened(text, most=60):
-    """A text for a line of a report: without control bytes, and not too long."""
-    shown = "".join(letter if letter.isprintable() or "\udc80" <= letter <= "\udcff" else "?" for letter in text)
-    return shown if len(shown) <= most else shown[:most - 2] + ".."
 
 
 def why_no_value(kind, text, node):

@@ -56,7 +56,7 @@ class Version:
     def text_of(self, path):
         if path.startswith(".."):
             raise tool.Fault(f"{path} is outside of the work tree, and in no version")
-        return git(self.folder, "show", f"{self.revision}:{path}")
+        return git(self.folder, "show", "--end-of-options", f"{self.revision}:{path}")
 
 
 def taken_in(path, text):

@@ -44,7 +44,8 @@ class Waits:
         self.network, self.bit = network, bit
         self.by_identifier = {}
         for each in traffic:
-            self.by_identifier.setdefault(each.identifier, []).append(each)
+            if not each.is_once and not each.is_foreign:
+                self.by_identifier.setdefault(each.identifier, []).append(each)
         self.seen = {each: Seen() for each in traffic}
         self.end, self.is_disturbed, self.configured = 0, False, set()
         self.sync, self.queued, self.sent, self.touched, self.last = None, {}, {}, {}, {}

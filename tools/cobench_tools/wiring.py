@@ -3,6 +3,7 @@
 A node's values are the defaults of its data sheet, and over them the writes of its concise DCF. Which PDOs
 work with these values is said in docs/rules/pdos.md; TPDOs and RPDOs with one identifier belong together.
 """
+import bisect
 import functools
 
 from . import concise, tool, values
@@ -22,8 +23,9 @@ def is_restricted(identifier):
 
 def pdo_numbers(device, direction):
     """The numbers of the PDOs of a direction that a data sheet has."""
-    first = COMMUNICATION[direction]
-    return sorted(index - first for index, subs in device.subs.items() if 1 in subs and 1 <= index - first <= MOST_PDOS)
+    first, indexes = COMMUNICATION[direction], device.indexes
+    there = indexes[bisect.bisect_right(indexes, first):bisect.bisect_right(indexes, first + MOST_PDOS)]
+    return [index - first for index in there if 1 in device.subs[index]]
 
 
 def pdo_of(index):

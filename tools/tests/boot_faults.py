@@ -2,6 +2,7 @@
 from recording import DOWNLOADS
 
 PDO_MAPPINGS = list(range(0x1600, 0x1800)) + list(range(0x1A00, 0x1C00))
+START_OVER = 60_000     # microseconds behind the last boot after which the start of a machine is over for sure
 BEHIND = 20_000     # microseconds that a recording has to go on behind a fault at which something stays away
 
 
@@ -119,24 +120,27 @@ def identity_differs(recording):
 
 
 def boots_twice(recording):
-    """A node boots again."""
+    """A node boots again, or another device does that has its number: what comes of it goes on."""
     nodes = [node for node in recording.plan.nodes if recording.of(0x700 + node)]
     if not nodes:
         return None
     node = recording.dice.one(nodes)
     first = recording.frames[recording.of(0x700 + node)[0]][0]
     planted = recording.inserted(first + 1 + recording.dice.below(recording.end - first), (0x700 + node, b"\0"))
-    return planted and (planted[0], "boots-again", planted[1])
+    return planted and (planted[0], ("boots-again", "two-devices"), planted[1])
 
 
 def never_boots(recording):
-    """Nothing of a node is there."""
+    """Nothing of a node is there, in a recording that goes on behind the boots of all."""
+    boots = recording.places(lambda time, identifier, data: 0x580 < identifier < 0x680 or identifier > 0x700 and data == b"\0")
+    if not boots or recording.frames[boots[-1]][0] > recording.end - START_OVER:
+        return None
     nodes = [node for node in recording.plan.nodes if recording.of(0x700 + node)]
     if len(nodes) < 2:
         return None
     node = recording.dice.one(nodes)
     own = {0x700 + node, 0x580 + node, 0x80 + node} | {tpdo.identifier for tpdo in recording.plan.wiring.tpdos if tpdo.node == node}
-    return recording.filled(lambda place, frame: frame[1] in own), "never-boots", 1
+    return recording.filled(lambda place, frame: frame[1] in own), "never-seen", None
 
 
 def stranger(recording):

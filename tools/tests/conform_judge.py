@@ -3,6 +3,7 @@
 
 --networks N  the own runs of N networks, as they are, by a clock that is off, and cut: none may be told of
 --faults N    N logs of each kind of fault: it has to be told at its line, and nothing else
+--simulated N the machines of N networks as the simulation runs them with a fault, or with boots of another order and length
 """
 import argparse
 import os
@@ -28,7 +29,7 @@ from cobench_tools.evidence import Evidence
 from cobench_tools.logs import source, writers
 
 FORMS = writers.FORMATS
-PPM, JITTER = 100, 120
+PPM, JITTER = 200, 120
 ROUNDS, MOST_SHOWN = 4, 60
 
 
@@ -87,7 +88,7 @@ def why_wrong(kind, plan, frames, dice):
     spoiled, code, line, *window = planted
     found = conform(plan, spoiled, "log", *window)
     codes = code if isinstance(code, tuple) else (code,)
-    is_told = len(found) == 1 and found[0][0] in codes and found[0][1] == line
+    is_told = len(found) == 1 and found[0][0] in codes and line in (None, found[0][1])
     return "" if is_told else f"{kind}: {code} in line {line}, and told was {found}"
 
 
@@ -113,9 +114,11 @@ def main():
     parser = argparse.ArgumentParser(description=__doc__, formatter_class=argparse.RawDescriptionHelpFormatter)
     parser.add_argument("--networks", type=int, default=0)
     parser.add_argument("--faults", type=int, default=0)
+    parser.add_argument("--simulated", type=int, default=0)
     parser.add_argument("--of", type=int, default=100, help="plant them in so many networks, 100 without it")
     parser.add_argument("--kind", choices=list(log_faults.KINDS), action="append")
     options = parser.parse_args()
+    import simulated_judge
     program, wrong = real(), []
     with tempfile.TemporaryDirectory() as folder:
         os.chdir(folder)
@@ -127,6 +130,10 @@ def main():
             print(*(f"{kind}: {count} logs" for kind, count in counts.items()), sep="\n")
             print(f"{sum(counts.values())} faults: {len(told)} told wrongly")
             wrong += told
+        if options.simulated:
+            tally = simulated_judge.judge_all(range(options.simulated), program)
+            print(*(f"{what}, {became}: {count}" for (what, became), count in sorted(tally.counts.items())), sep="\n")
+            wrong += tally.wrong
     print(*wrong[:MOST_SHOWN], sep="\n")
     return 1 if wrong else 0
 

@@ -9,7 +9,8 @@ from cobench_tools.main import COMMANDS
 
 SIXTY_FOUR_MIB = 64 << 20
 
-# How each command is called, with the roles of its files. `live` serves until it is ended, and is tested by itself.
+# How each command is called, with the roles of its files. `live` and `lsp` serve until they are ended, `bus` needs a
+# bus: these are tested by themselves.
 CALLS = {
     "check": ("check", "--cobench", recorded(), "SCRIPT"),
     "export": ("export", "--cobench", recorded(), "files", "SCRIPT"),
@@ -20,6 +21,7 @@ CALLS = {
     "load": ("load", "--allow", "unbounded", "--cobench", recorded(), "SCRIPT"),
     "expand": ("expand", "SCRIPT"),
     "eds": ("eds", "x", "EDS"),
+    "start": ("start", "EDS"),
     "refusals": ("refusals", "SCRIPT", "REPLIES"),
     "explain": ("explain", "SCRIPT", "REPLIES"),
     "stats": ("stats", "--script", "SCRIPT", "REPLIES"),
@@ -29,7 +31,7 @@ CALLS = {
     "man": ("man",),
     "completion": ("completion",),
 }
-WITHOUT_A_TEST_HERE = {"live"}
+WITHOUT_A_TEST_HERE = {"live", "lsp", "bus"}
 SILENT = {"refusals", "diff"}   # where there is nothing to tell
 
 
@@ -133,8 +135,7 @@ def test_cut_files_are_told():
 
 def test_arguments_that_are_swapped_are_told():
     good = good_files()
-    for name, words in (("refusals", ["refusals", good["REPLIES"], good["SCRIPT"]]), ("candump", ["candump", good["SCRIPT"]]),
-                        ("explain", ["explain", good["REPLIES"], good["SCRIPT"]]), ("eds", ["eds", "x.eds", "x"]),
+    for name, words in (("refusals", ["refusals", good["REPLIES"], good["SCRIPT"]]), ("explain", ["explain", good["REPLIES"], good["SCRIPT"]]), ("eds", ["eds", "x.eds", "x"]),
                         ("stats", ["stats", "--script", good["REPLIES"], good["SCRIPT"]]),
                         ("timeline", ["timeline", "--script", good["REPLIES"], good["SCRIPT"]]),
                         ("conform", ["conform", "--cobench", recorded(), good["LOG"], good["SCRIPT"]]),
@@ -153,9 +154,9 @@ def test_lines_that_end_by_cr_lf_are_those_that_end_by_lf():
         put(name, with_cr(example(name)))
     put("io_modules.txt", with_cr(example("io_modules.txt")))
     put("io_modules.replies.txt", with_cr(example("io_modules.replies.txt")))
-    put("x.dcf", with_cr("x.dcf"))
-    put("x.log", with_cr("x.log"))
-    there = {"SCRIPT": "io_modules.txt", "REPLIES": "io_modules.replies.txt", "EDS": "digital_io.eds", "DCF": "x.dcf", "LOG": "x.log"}
+    for name in ("x.eds", "x.dcf", "x.log"):
+        put(name, with_cr(name))
+    there = {"EDS": "x.eds", "DCF": "x.dcf", "LOG": "x.log", "SCRIPT": "io_modules.txt", "REPLIES": "io_modules.replies.txt"}
     for name, call in CALLS.items():
         status, output, faults = run(*[there.get(word, word) for word in call])
         assert status == before[name][0] and not faults, (name, faults)

@@ -4,7 +4,7 @@ import os
 import re
 from xml.etree import ElementTree
 
-from helper import example, file, is_fine, is_refused, kept, put, recorded, run
+from helper import example, file, is_refused, kept, put, recorded, run
 
 
 def check(*words, given=b""):
@@ -33,7 +33,7 @@ def test_check_tells_the_line_and_the_cause_of_each_diagnostic():
 
 
 def test_check_tells_each_diagnostic_that_diag_has():
-    findings = json.loads("\n".join(check("--json", valves())[1]))["findings"]
+    findings = json.loads("\n".join(check("--json", "--sort", "code", valves())[1]))["findings"]
     diagnostics = [each["words"] for each in findings if re.match("[EW][0-9]", each["code"])]
     codes = {line.split()[0] for line in diagnostics}
     assert codes == {f"E{number:02}" for number in range(1, 17)} - {"E13"} | {f"W{number}" for number in range(17, 23)}
@@ -47,36 +47,40 @@ def test_check_tells_that_all_is_well():
 
 def test_check_tells_refused_commands_with_their_causes():
     status, lines, _ = check(example("servo_axes.txt"))
-    places = [re.match(r".*/(servo_axes.txt:\d+): error: (.*) \[refused\]", line).groups() for line in lines[:-1]]
+    places = [re.match(r".*/(servo_axes.txt:\d+): error: (.*) \[refused\]", line).groups() for line in lines[:3]]
     assert status == 1 and places[0] == (
         "servo_axes.txt:93", "param 3 1017 0 100: refused 4 Unknown: node 3 isn't there; there are: 1, 2, 10"), places
     assert [place for place, _ in places] == ["servo_axes.txt:93", "servo_axes.txt:94", "servo_axes.txt:96"]
-    assert lines[-1] == "3 errors, no warnings; 3 of 3 nodes booted by 103.600 ms"
+    assert lines[3].endswith("servo_axes.txt:99: warning: event 8: its time, 1,500.000 ms, is behind the horizon, 330.000 ms: "
+                             "it never happens [late-event]") and len(lines) == 5
+    assert lines[-1] == "3 errors, 1 warning; 3 of 3 nodes booted by 103.600 ms"
 
 
 def test_check_tells_of_boots_that_fail_or_never_end():
     drives("bitrate 10", "manager 127 0 0 1", "node 5 pump drive", "node 6 fan drive", "event 1 0 power 6 off")
     assert check("net.txt")[:2] == (1, [
         "net.txt:11: error: node 5 pump: failed to boot at 6.500 ms: no answer in 1 ms; last: no SDO frame [failed]",
-        "net.txt:12: error: node 6 fan: isn't configured at the end, 1,000.000 ms: it sent no boot-up message [unconfigured]",
+        "net.txt:12: error: node 6 fan: isn't configured at the end, 1,000.000 ms: it sent no boot-up message; "
+        "event 1 has switched it off [unconfigured]",
         "2 errors, no warnings; 0 of 2 nodes booted"])
     drives("node 5 pump drive", "event 1 56 set 5 1018 1 7", "node 6 late drive", "horizon 400")
     assert check("net.txt")[:2] == (1, [
         "net.txt:9: error: node 5 pump: failed to boot at 0.277 ms: it isn't the device of its data sheet; "
         "last: 1018h:01 Vendor = 00000007h [failed]",
         "net.txt:11: error: node 6 late: isn't configured at the end, 0.400 ms: its boot began at 0.332 ms; "
-        "last: no SDO frame [unconfigured]",
+        "last: no SDO frame; the horizon is too short for it [unconfigured]",
         "2 errors, no warnings; 0 of 2 nodes booted"]), check("net.txt")
 
 
 def test_check_finds_lines_in_other_files_and_in_blocks():
     put("base.txt", b"# base\neds d 3\n[1017]\nDataType=6\nDefaultValue=x\nnode 5 pump d\n")
     put("net.txt", b"<base.txt\nparam 5 1018 1 5\nnode 6 fan nodrive\n")
-    assert check("net.txt")[1][:-1] == [
+    found = [
         "net.txt:3: error: node 6 fan nodrive: refused 4 Unknown: eds nodrive isn't there; there are: d [refused]",
         "net.txt:2: error: node 5 pump: 1018h:01: data sheet d has no object 1018h [E01]",
         'base.txt:5: error: node 5 pump: 1017h:00: DefaultValue "x" is no UNSIGNED16: a number is decimal, 0x and '
         "hexadecimal, or $NODEID+number; 0 is taken for it [E02]"]
+    assert check("--sort", "code", "net.txt")[1][:-1] == found and check("net.txt")[1][:-1] == found[::-1]
     assert check("-", given=b"node 5 pump d\n")[1][0] == (
         "<stdin>:1: error: node 5 pump d: refused 4 Unknown: eds d isn't there; there are: none [refused]")
 
@@ -86,7 +90,7 @@ def test_check_accepts_what_the_user_accepts():
     found = check("net.txt")[1]
     assert len(found) == 4 and found[-1].startswith("3 errors")
     status, lines, faults = check("--allow", "E01 param 5 3000", "net.txt")
-    assert status == 1 and not faults and lines == [found[0], found[2], found[3].replace("3 errors, no warnings", "2 errors, no warnings, 1 accepted")]
+    assert status == 1 and not faults and lines == [found[1], found[2], found[3].replace("3 errors, no warnings", "2 errors, no warnings, 1 accepted")]
     put("accepted.txt", b"# of the vendor\nE01 param 5   # both\nrefused param 9\n\nE02 default 5\n")
     status, lines, faults = check("--allow-from", "accepted.txt", "net.txt")
     assert status == 0 and lines == ["no errors, no warnings, 3 accepted; 1 of 1 node booted by 0.277 ms"], lines
@@ -108,6 +112,8 @@ def test_check_tells_of_values_of_pdo_objects():
     put("net.txt", b"eds x <x.dcf\nnode 5 pump x\n")
     status, lines, faults = check("net.txt")
     assert status == 0 and not faults and lines[0] == (
+        "x.dcf:1: warning: data sheet x: 1400h: it is the communication object of a PDO, and there is no mapping object 1600h [sheet]")
+    assert lines[1] == (
         "x.dcf:3: warning: data sheet x: 1 value of a PDO object is not used, as messages make them; "
         "`cobtool import` makes messages of them [pdo-values]")
 
@@ -130,7 +136,7 @@ def test_the_report_in_json_and_junit():
     assert "[W20]" in cases["eds valve"].find("system-out").text and "eds valve" not in failed
     assert len(cases["message a_clean"]) == 0 and os.listdir(".").count(".report.xml.new") == 0
     whole = json.loads("\n".join(check("--json", "--allow", "E", "--allow", "E08", "valves.txt")[1]))
-    assert whole["status"] == 1 and whole["errors"] == 36 and whole["warnings"] == 16
+    assert whole["status"] == 1 and whole["errors"] == 38 and whole["warnings"] == 28
     assert [(each["file"], each["line"], each["notes"]) for each in whole["findings"] if each["accepted"]] == [
         ("valves.txt", 41, [{"file": "valves.txt", "line": 44, "text": "sink 3 is of node 6 right, which sends the message"}])]
     assert whole["nodes"][0] == {"node": 5, "name": "left", "configured_us": 2275}

@@ -1,5 +1,7 @@
 """The examples and the documents: what they show is what the tools and cobench print."""
 import csv
+import importlib.machinery
+import importlib.util
 import io
 import os
 import re
@@ -22,10 +24,13 @@ def test_the_stored_sessions_have_the_examples_with_the_kept_replies():
         assert answers == file(EXAMPLES, name + ".replies.txt"), name
 
 
-def test_the_readme_begins_with_the_first_network():
-    blocks = re.findall(r"(?m)(?:^    .*\n)+", file(ROOT, "README.md").decode())
-    texts = [re.sub(r"(?m)^    ", "", block).encode() for block in blocks]
-    assert texts[0] == file(EXAMPLES, "first_network.txt") and texts[1] == file(EXAMPLES, "first_network.replies.txt")
+def test_the_quick_start_is_what_its_commands_print():
+    """The script is the example's without its comments; what stands behind a command with a $ is all that it prints."""
+    blocks = blocks_of(page("README.md"))
+    lines = [line for line in page("examples", "quick_start.txt").splitlines() if not line.startswith("#")]
+    assert blocks[0].splitlines() == lines
+    command, output = re.fullmatch(r"\$ tools/cobtool (.*)\n((?:.*\n)+)", blocks[1]).groups()
+    assert told(*command.split()) == output
 
 
 def page(*parts):
@@ -59,15 +64,15 @@ def test_from_plan_to_machine_has_what_its_commands_tell():
             assert block == output or "[sdo-value]" not in block, output
             answers += 1
     assert answers == 3 and file("run.html").decode().count("pdo-swapped")
-    assert "[late]" not in told("load", "--allow", "refused", "--assume", "20000", "--window", "3000", "examples/servo_axes.txt")
+    assert "[late]" not in told("load", "--allow", "refused", "--assume", "20000", "--window", "5000", "examples/servo_axes.txt")
 
 
 def test_from_plan_to_machine_has_the_columns_of_the_load():
-    """The stuffed columns of the page are the last of each of these names in the table."""
+    """It has the rows of all frames."""
     found = re.findall(r"(?m)^\| ([0-9A-F]{3}h) \| (.*) \|$", page("docs", "on_the_machine.md"))
     table = told("load", "--format", "csv", "--table", "frames", "--allow", "refused", "--assume", "20000", "examples/servo_axes.txt")
-    rows = {row["COB-ID"]: row for row in csv.DictReader(io.StringIO(table)) if row["In time"] in ("yes", "no")}
-    columns = "Frames", "Comes", "stuffed [%]", "stuffed [ms]", "In the trace [ms]"
+    rows = {row["COB-ID"]: row for row in csv.DictReader(io.StringIO(table)) if row["In time"]}
+    columns = "Frames", "Comes", "Share with stuff bits [%]", "Longest wait with stuff bits [ms]", "In the trace [ms]"
     assert {key: cells.split(" | ") for key, cells in found} == {key: [row[name] or "-" for name in columns] for key, row in rows.items()}
 
 
@@ -141,3 +146,29 @@ def anchors(text):
     """The anchors of the headings of a page."""
     titles = re.findall("(?m)^#+ (.*)$", text)
     return {re.sub("[^a-z0-9 _-]", "", title.lower()).replace(" ", "-") for title in titles}
+
+
+def floors():
+    """The module of the program that draws the crates."""
+    loader = importlib.machinery.SourceFileLoader("floors", os.path.join(ROOT, "tools", "floors"))
+    module = importlib.util.module_from_spec(importlib.util.spec_from_loader("floors", loader))
+    loader.exec_module(module)
+    return module
+
+
+def test_the_drawing_of_the_crates_is_that_of_their_sources():
+    assert floors().drawn() == page("docs", "floors.svg"), "tools/floors draws it anew"
+
+
+def test_each_crate_has_a_page_that_says_what_it_stands_on():
+    drawing = floors()
+    crates = [crate for _, those in drawing.floors() for crate in those]
+    used = drawing.uses(crates)
+    assert set(crates) == set(os.listdir(os.path.join(ROOT, "crates")))
+    for crate in crates:
+        text = page("crates", crate, "README.md")
+        said = {part.partition("**")[0]: re.findall(r"\[`(\w+)`\]", part) for part in text.split("\n**")[1:]}
+        assert text.startswith(f"# {crate}\n") and said["Stands on"] == used[crate], (crate, said["Stands on"], used[crate])
+        assert crate == "network_laws" or said["Used by"] == [each for each in crates if crate in used[each]], crate
+        for name in re.findall(r"`((?:src|specs)/[^`]+)`", text):
+            assert os.path.exists(os.path.join(ROOT, "crates", crate, name)), (crate, name)

@@ -7,10 +7,9 @@ import sys
 
 from helper import COBTOOL, example, file, is_fine, is_refused, put, recorded, recorded_replies, run, stand_in
 
-from cobench_tools import output
-
 NODES = ("11_infeed", "12_outfeed", "1_line")
 NAMES = sorted([name + end for name in NODES for end in (".bin", ".dcf")] + ["diagnostics.txt", "trace.log", "trace.txt"])
+ALL = sorted([*NAMES, "export.json"])
 QUERIES = b"diag\ntrace\n" + b"".join(b"cdcf %d\ndcf %d\n" % (node, node) for node in (1, 11, 12))
 TOLD = b"no errors, no warnings; 3 of 3 nodes booted by 60.244 ms\n"
 WRITTEN = b"9 files in files: DCF and concise DCF of 3 nodes, diagnostics.txt, trace.txt, trace.log\n"
@@ -42,7 +41,7 @@ def reply_to(query):
 
 def test_export_writes_the_files_of_each_node():
     is_fine(export(), TOLD + WRITTEN)
-    assert sorted(os.listdir("files")) == NAMES
+    assert sorted(os.listdir("files")) == ALL
     for name in NODES:
         node = name.split("_")[0].encode()
         assert file("files", name + ".dcf") == reply_to(b"dcf " + node)
@@ -60,7 +59,7 @@ def test_export_tells_of_files_of_other_nodes():
 
 def test_export_writes_nothing_where_something_is_wrong():
     changes = (
-        (lambda replies: replies.replace(b"ok\n", b"refused 7 Limit\n", 1), b"io_modules.txt:3: error: eds dio <digital_io.eds: refused 7"),
+        (lambda replies: b"refused 7 Limit\n".join(replies.rsplit(b"ok\n", 1)), b"io_modules.txt:52: error: horizon 600000: refused 7"),
         (lambda replies: with_diagnostic(replies, b"E09 message outputs"), b"error: message outputs: cobench says so [E09]"),
         (lambda replies: replies.replace(b"note 12 configured", b"note 12 failed timeout"), b"error: node 12 outfeed: failed to boot"))
     for change, says in changes:
@@ -109,7 +108,7 @@ def test_export_replaces_all_files_or_none():
     assert file("files", "11_infeed.dcf") == b"old" and sorted(os.listdir("files")) == ["11_infeed.dcf", "trace.txt"]
     os.rmdir("files/trace.txt")
     is_fine(export(), TOLD + WRITTEN)
-    assert sorted(os.listdir("files")) == NAMES and file("files", "11_infeed.dcf") == reply_to(b"dcf 11")
+    assert sorted(os.listdir("files")) == ALL and file("files", "11_infeed.dcf") == reply_to(b"dcf 11")
 
 
 def test_export_to_a_disk_that_fills_up_writes_nothing():
@@ -122,20 +121,14 @@ def test_export_to_a_disk_that_fills_up_writes_nothing():
     assert os.listdir("files") == ["11_infeed.dcf"] and file("files", "11_infeed.dcf") == b"old"
 
 
-def test_a_place_that_cannot_be_changed_gives_back_all_others():
-    put("a", b"old a")
-    put(".a.new", b"new a")
-    put(".b.new", b"new b")
-    try:
-        output.change_places(".", ["a", "c", "b"])
-        raise AssertionError("there is no .c.new")
-    except FileNotFoundError:
-        pass
-    assert file("a") == b"old a" and sorted(os.listdir(".")) == [".b.new", "a"]
-
-
 def test_explain_takes_the_trace_of_an_export():
     is_fine(export(), TOLD + WRITTEN)
     whole = run("explain", example("io_modules.txt"), example("io_modules.replies.txt"))
     is_fine(run("explain", example("io_modules.txt"), "files/trace.txt"), whole[1])
     is_fine(run("explain", example("io_modules.txt"), "-", given=file("files", "trace.txt")), whole[1])
+
+
+def test_export_says_that_its_words_are_swapped():
+    put("net.txt", b"horizon 1000\n")
+    is_refused(run("export", "net.txt", "files"), "files: No such file", "DIR stands first: cobtool export files net.txt")
+    is_refused(run("export", "nosuch", "files"), "files: No such file or directory")

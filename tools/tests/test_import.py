@@ -3,7 +3,8 @@ import os
 import re
 
 import networks
-from helper import BINARY, answers, example, in_parallel, is_fine, is_refused, kept, kept_at, put, real, recorded, run
+from helper import (BINARY, answers, example, in_parallel, is_fine, is_refused, kept, kept_at, put, real, recorded, recorded_replies,
+                    run)
 
 MACHINE = ["plc.dcf", "axis_1.dcf", "axis_2.dcf", "valve.dcf"]
 DCF = b"[1017]\nDataType=6\nDefaultValue=0\n%s[DeviceComissioning]\nNodeID=5\nNodeName=pump\nBaudrate=500\n"
@@ -74,7 +75,7 @@ def test_import_puts_data_sheets_into_a_folder():
     words = [os.path.join("import", name) for name in MACHINE]
     inline, told = run("import", *words)[1:]
     status, output, faults = run("import", "--sheets", "sheets", *words)
-    assert status == 0 and faults == told and sorted(os.listdir("sheets")) == ["Valve_terminal_8.eds", "drive_v2.eds"]
+    assert status == 0 and faults == told and sorted(os.listdir("sheets")) == ["Valve_terminal_8.eds", "drive_v2.eds", "drive_v2_2.eds"]
     assert b"\neds drive_v2 <sheets/drive_v2.eds\n" in output and b"[1017]" not in output
     put("machine.txt", output)
     put("inline.txt", inline)
@@ -128,6 +129,73 @@ def messages_with_rpdos(first, second):
 def test_import_gives_each_receiver_its_rpdo():
     assert messages_with_rpdos(0x190, 0x191) == [b"a_1 1 1 255 0 0 190", b"a_2 1 2 255 0 0 191"]
     assert messages_with_rpdos(0x191, 0x190) == [b"m1_a_2 1 2 255 0 0 191", b"m2_a_1 1 1 255 0 0 190"]
+
+
+def axis(pdos):
+    """Writes the DCF of an axis whose data sheet has RPDO 2 on with 300h + node at once, and RPDO 1 off."""
+    sheet = ("[1400sub1]\nDataType=7\nDefaultValue=0x80000205\n{0}[1400sub2]\nDataType=5\nDefaultValue=255\n"
+             "[1600sub0]\nDataType=5\n[1600sub1]\nDataType=7\n"
+             "[1401sub1]\nDataType=7\nDefaultValue=$NODEID+0x300\n{1}[1401sub2]\nDataType=5\nDefaultValue=255\n{2}"
+             "[1601sub0]\nDataType=5\nDefaultValue=1\n[1601sub1]\nDataType=7\nDefaultValue=0x60400010\n"
+             "[6040]\nDataType=6\nAccessType=rww\nPDOMapping=1\n[DeviceComissioning]\nNodeID=5\nNodeName=axis5\n")
+    return put("axis5.dcf", sheet.format(*pdos).encode())
+
+
+def plc_305():
+    """Writes the DCF of a controller that sends 305h at each SYNC."""
+    return put("plc.dcf", b"[1800sub1]\nDataType=7\nDefaultValue=0x80000000\nParameterValue=0x40000305\n[1800sub2]\nDataType=5\n"
+               b"ParameterValue=1\n[1A00sub0]\nDataType=5\nParameterValue=1\n[1A00sub1]\nDataType=7\nParameterValue=0x20000010\n"
+               b"[2000]\nDataType=6\nPDOMapping=1\n[DeviceComissioning]\nNodeID=10\nNodeName=plc\n")
+
+
+def test_import_says_what_comes_of_an_rpdo_that_stays_on():
+    """The file has RPDO 2 at SYNC; the script gives the message RPDO 1, and RPDO 2 stays on by its default, at once."""
+    faults = run("import", plc_305(), axis(("", "ParameterValue=0x305\n", "ParameterValue=1\n")))[2].splitlines()
+    assert "axis5.dcf:14: warning: axis5 takes 305h twice: by RPDO 1 at SYNC, by RPDO 2 at once" in faults, faults
+    put("made.txt", run("import", "plc.dcf", "axis5.dcf")[1])
+    assert b"axis5 (RPDO 1), axis5 (RPDO 2)" in run("matrix", "--table", "messages", "--cobench", recorded(), "made.txt")[1]
+    output = run("check", "--cobench", recorded(), "made.txt")[1].decode()
+    assert ": warning: node 5 axis5: it takes 305h twice: by RPDO 1 at SYNC, by RPDO 2 at once [taken-twice]\n" in output, output
+    assert "[taken-twice]" not in run("check", "--cobench", recorded(), "--allow", "taken-twice 5 305", "made.txt")[1].decode()
+    faults = run("import", plc_305(), axis(("ParameterValue=0x305\n", "", "")))[2]
+    assert "twice" not in faults, "the file has both on with 305h itself, RPDO 1 at once too: " + faults
+
+
+def test_import_says_nothing_of_types_that_come_to_the_same():
+    """By CiA 301 an RPDO of any type from 0 to 240 waits for the next SYNC; the script gives 0."""
+    for kind, said in ((0, False), (1, False), (240, False), (254, True)):
+        pdos = "ParameterValue=0x305\n", "ParameterValue=0x80000305\n", ""
+        text = axis(pdos).encode() and open("axis5.dcf").read().replace("[1600sub0]", f"ParameterValue={kind}\n[1600sub0]")
+        put("axis5.dcf", text.replace("[1600sub0]\nDataType=5\n[1600sub1]\nDataType=7\n", "[1600sub0]\nDataType=5\nParameterValue=1\n"
+                                      "[1600sub1]\nDataType=7\nParameterValue=0x60400010\n").encode())
+        faults = run("import", plc_305(), "axis5.dcf")[2]
+        assert ("1400h:02" in faults) == said, (kind, faults)
+
+
+def test_import_keeps_what_it_does_not_model_in_the_data_sheet():
+    for node, gain in ((1, b"2.5"), (2, b"2.5"), (3, b"3.5"), (4, b"")):
+        value = b"ParameterValue=" + gain + b"\n" if gain else b""
+        put(f"{node}.dcf", b"[2000]\nDataType=8\nDefaultValue=1.5\n%s[2001]\nDataType=6\nParameterValue=%d\n"
+            b"[DeviceComissioning]\nNodeID=%d\nNodeName=n%d\n" % (value, node, node, node))
+    status, output, faults = run("import", "1.dcf", "2.dcf", "3.dcf", "4.dcf")
+    assert status == 0 and output.count(b"\neds ") == 3 and output.count(b"ParameterValue=2.5") == 1, output
+    assert b"\nnode 1 n1 n1\n" in output and b"\nnode 2 n2 n1\n" in output and b"\nnode 3 n3 n3\n" in output
+    assert faults.splitlines() == [
+        f"{node}.dcf:4: warning: kept in the data sheet, and so in the DCF (E16), but not written, as of REAL32, a data type that cobench "
+        "doesn't write: 2000h:00 (line 4)" for node in (1, 2, 3)], faults
+    put("made.txt", output)
+    put("asked.txt", output + b"dcf 3\n")
+    lines = recorded_replies(run("expand", "asked.txt")[1]).splitlines()
+    assert b"ParameterValue=3.5" in lines and b"ParameterValue=0x0003" in lines, lines
+
+
+def test_import_names_what_it_drops_of_the_commissioning():
+    put("5.dcf", DCF % b"" + b"NetNumber=2\nNetworkName=\nCANopenManager=0\nLSS_SerialNumber=0x12\nOther=x\n")
+    assert run("import", "5.dcf")[2] == (
+        "5.dcf:8: warning: the script has no word for what the commissioning section says besides: NetNumber=2 (line 8), "
+        "LSS_SerialNumber=0x12 (line 11), other=x (line 12)\n")
+    put("5.dcf", DCF % b"" + b"CANopenManager=1\n")
+    assert run("import", "5.dcf")[2].endswith("besides: CANopenManager=1 (line 8)\n")
 
 
 def test_import_says_what_no_start_value_can_say():

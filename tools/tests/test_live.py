@@ -276,7 +276,7 @@ def test_odd_files_are_told_and_gone_on_from():
         text, before = scene.text(), scene.trace()
         for odd, why in ((text.decode().encode("utf-16"), "this is UTF-16; save it as UTF-8 or as plain ASCII"),
                          (text.replace(b"\n", b"\r"), "its lines end by CR alone; save it with LF or CR LF"),
-                         (b"#" * (64 << 20) + b"\n", "64 MiB, and cobench takes no more"), (text + b"eds x 3\n", "the script ends after 0 of the 3 lines")):
+                         (b"#" * (64 << 20) + b"\n", "64 MiB, and cobtool takes no more"), (text + b"eds x 3\n", "the script ends after 0 of the 3 lines")):
             scene.save(odd)
             assert scene.status()[0] == "fault" and why in scene.status()[1], scene.status()
             assert scene.trace() == before
@@ -332,11 +332,11 @@ def test_the_feed_gives_what_is_new():
 class Served:
     """A server over a feed, for requests of all kinds."""
 
-    def __init__(self):
+    def __init__(self, word=""):
         self.feed = Feed()
         self.feed.put({"name": "</script><script>alert(1)</script>"})
-        self.server = Server(0, "<b>net</b>", self.feed, {"5.dcf": (b"\xe4\n", "text/plain")}.get)
-        threading.Thread(target=self.server.serve_forever, daemon=True).start()
+        self.server = Server(0, "<b>net</b>", self.feed, {"5.dcf": (b"\xe4\n", "text/plain")}.get, word)
+        threading.Thread(target=self.server.serve, daemon=True).start()
 
     def __enter__(self):
         return self
@@ -468,12 +468,13 @@ def test_live_serves_until_it_is_ended():
     scene = Scene()
     program = subprocess.Popen([sys.executable, COBTOOL, "live", "--port", "0", "--cobench", " ".join(words()), scene.script],
                                stdout=subprocess.PIPE, stderr=subprocess.PIPE)
-    port = int(re.match(rb"http://127.0.0.1:([0-9]+)/ follows network.txt", program.stdout.readline()).group(1))
+    port, word = re.match(rb"http://127.0.0.1:([0-9]+)/(\?k=[\w-]{22}) follows network.txt", program.stdout.readline()).groups()
+    port, word = int(port), word.decode()
     link = http.client.HTTPConnection("127.0.0.1", port, timeout=10)
-    link.request("GET", "/")
+    link.request("GET", "/" + word)
     assert b"network.txt" in link.getresponse().read()
     stream = http.client.HTTPConnection("127.0.0.1", port, timeout=10)
-    stream.request("GET", "/feed")
+    stream.request("GET", "/feed" + word)
     lines = stream.getresponse()
     wait_until(lambda: b'"ledger":[{' in lines.readline())
     program.send_signal(signal.SIGTERM)

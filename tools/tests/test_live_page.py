@@ -23,7 +23,7 @@ class Opened:
         program = " ".join(program or words())
         self.program = subprocess.Popen([sys.executable, COBTOOL, "live", "--port", "0", "--cobench", program, self.scene.script],
                                         stdout=subprocess.PIPE)
-        self.address = re.match(rb"(http://127.0.0.1:[0-9]+/)", self.program.stdout.readline()).group(1).decode()
+        self.address = re.match(rb"(http://127.0.0.1:[0-9]+/\S*) ", self.program.stdout.readline()).group(1).decode()
         self.page = self.another(**more)
 
     def another(self, wide=1280, high=800, **more):
@@ -45,7 +45,7 @@ class Opened:
 
     def close(self):
         self.program.terminate()
-        self.program.communicate(timeout=10)
+        self.program.communicate(timeout=60)
 
 
 @contextlib.contextmanager
@@ -297,10 +297,11 @@ def test_files_can_be_saved():
         page.value("live.tabs.choose(1), document.querySelector('.node').open = true")
         page.settle()
         links = page.value("[...document.querySelectorAll('.node[open] a')].map(each => [each.getAttribute('href'), each.download])")
-        assert links == [["files/5.dcf", "5_pump.dcf"], ["files/5.bin", "5_pump.bin"]], links
-        dcf = page.value("fetch('files/5.dcf').then(answer => answer.text())")
+        word = live.address.partition("/?")[2]
+        assert word and links == [[f"files/5.dcf?{word}", "5_pump.dcf"], [f"files/5.bin?{word}", "5_pump.bin"]], links
+        dcf = page.value(f"fetch('files/5.dcf?{word}').then(answer => answer.text())")
         assert dcf.startswith("[1000]\n") and "ParameterValue=0x0064\n" in dcf and dcf.endswith("Baudrate=1000\n")
-        bytes_ = page.value("fetch('files/5.bin').then(answer => answer.arrayBuffer()).then(data => [...new Uint8Array(data)])")
+        bytes_ = page.value(f"fetch('files/5.bin?{word}').then(answer => answer.arrayBuffer()).then(data => [...new Uint8Array(data)])")
         assert bytes_[:4] == [10, 0, 0, 0] or bytes_[1:4] == [0, 0, 0], bytes_[:8]
 
 

@@ -3,6 +3,7 @@ import csv
 import io
 import json
 import os
+import re
 import xml.etree.ElementTree as xml
 
 import buses
@@ -64,21 +65,27 @@ def load(*words, given=None):
 
 
 # servo_axes.txt by hand, at 250 kbit/s, 4 us a bit. Bits without stuff bits: 47 + 8 n; with the most: and (33 + 8 n) / 4 more.
-# The longest frame behind those of SYNC and the first PDOs is that of 28Ah: 111 bits, 444 us; with 24 more 540 us.
+# The longest frame behind those of SYNC and the first PDOs is an SDO frame: 111 bits, 444 us; with 24 more 540 us.
 # SYNC: 444 + 188. Its jitter so is 444 us, and 10 ms - 572 us with stuff bits (760 - 188) is the deadline of what it sends.
-# 181h: 444 + 188 + 380; 182h: and 380 more; 18Ah: 444 + 188 + 380 + 380 + 316. Heartbeats: the least consumer time less 100 ms.
+# Behind SYNC come the emergencies of three nodes, 444 us each, 540 us with stuff bits: 81h waits 444 + 188 and takes 444.
+# 181h: 444 + 188 + 1332 + 380; 182h: and 380 more; 18Ah: 444 + 188 + 1332 + 380 + 380 + 316. Heartbeats: the least consumer
+# time less 100 ms.
 SERVO = """\
 080h,SYNC,0,47,55,188,220,1.88,2.20,0.632,0.760,10.000,yes
-181h,x_actual,6,95,115,380,460,3.80,4.60,1.012,1.220,9.428,yes
-182h,y_actual,6,95,115,380,460,7.60,9.20,1.392,1.680,5.000,yes
-18Ah,controls,4,79,95,316,380,3.16,3.80,1.708,2.060,9.428,yes
+081h,EMCY of x_axis,8,111,135,444,540,-,-,1.076,1.300,-,-
+082h,EMCY of y_axis,8,111,135,444,540,-,-,1.520,1.840,-,-
+08Ah,EMCY of motion,8,111,135,444,540,-,-,1.964,2.380,-,-
+181h,x_actual,6,95,115,380,460,3.80,4.60,2.344,2.840,9.428,yes
+182h,y_actual,6,95,115,380,460,7.60,9.20,2.724,3.300,5.000,yes
+18Ah,controls,4,79,95,316,380,3.16,3.80,3.040,3.680,9.428,yes
 281h,TPDO 2 of x_axis,3,71,85,284,340,-,-,-,-,-,no bound
 28Ah,targets,8,111,135,444,540,4.44,5.40,-,-,9.428,no bound
+581h,SDO,8,111,135,444,540,-,-,-,-,-,no bound
 701h,heartbeat of x_axis,1,55,65,220,260,0.22,0.26,-,-,50.000,no bound
 77Fh,heartbeat of manager,1,55,65,220,260,0.04,0.05,-,-,500.000,no bound
 """
-SHOWN = ["COB-ID", "Frames", "Bytes", "Bits", "stuffed", "Time [us]", "stuffed [us]", "Share [%]", "stuffed [%]", "Longest wait [ms]",
-         "stuffed [ms]", "Deadline [ms]", "In time"]
+SHOWN = ["COB-ID", "Frames", "Bytes", "Bits", "Bits with stuff bits", "Time [us]", "Time with stuff bits [us]", "Share [%]",
+         "Share with stuff bits [%]", "Longest wait [ms]", "Longest wait with stuff bits [ms]", "Deadline [ms]", "In time"]
 
 
 def rows_of(output):
@@ -86,13 +93,14 @@ def rows_of(output):
 
 
 def test_load_of_the_example_by_hand():
+    """282h, at most each 4.4 ms: 540 us of blocking, 220, 3 x 540, 2 x 460, 380, 2 x 340 come to 4.36 ms, its own deadline."""
     status, output, faults = load("--format", "csv", given=example("servo_axes.txt"))
     rows = [",".join(row[name] for name in SHOWN) for row in rows_of(output)]
-    assert status == 1 and len(rows) == 10
+    assert status == 1 and len(rows) == 14
     for line in SERVO.splitlines():
         assert line in rows, (line, rows)
     assert "servo_axes.txt:6: warning: TPDO 2 of x_axis: it is on by the defaults of the data sheet" in faults
-    assert "with INHIBIT, which writes 1801h:03, bounds it: 28 (2.8 ms) is the least with which all is in time [unbounded]" in faults
+    assert "with INHIBIT, which writes 1801h:03, bounds it: 44 (4.4 ms) is the least with which all is in time [unbounded]" in faults
 
 
 def test_load_tells_what_the_trace_shows():
@@ -103,20 +111,26 @@ def test_load_tells_what_the_trace_shows():
 
 
 def test_load_finds_what_is_late():
-    """Behind SYNC 18Ah waits 540 us of blocking, 220 us of SYNC, 460 us and 460 us, and takes 380 us itself: 2.06 ms."""
+    """Behind SYNC 18Ah waits 540 us of blocking, 220 us of SYNC, 3 x 540 us, 460 us and 460 us, and takes 380 us itself: 3.68 ms.
+
+    28Ah waits for that, and for 281h and 282h, 340 us each, and takes 540 us: 4.9 ms.
+    """
     text = file(os.path.dirname(example("x")), "servo_axes.txt")
     lines = [line for line in text.splitlines() if not line.startswith((b"param 3 ", b"param 1 1400", b"drop-node"))]
     for name in ("servo_drive.eds", "motion_controller.eds"):
         os.symlink(example(name), name)
     put("servo.txt", b"\n".join(lines))
-    status, output, faults = load("--window", "2060", "--assume", "5000", given="servo.txt")
-    assert status == 1 and faults.count(": error: ") == 1 and "servo.txt:43: error: targets: at worst 3.000 ms after SYNC" in faults, faults
-    status, output, faults = load("--window", "2059", "--assume", "5000", given="servo.txt")
-    assert ("servo.txt:38: error: controls: at worst 2.060 ms after SYNC, and the window behind SYNC is 2.059 ms: 3 frames of higher "
-            "priority in 1.140 ms and one of lower priority that had started, in 0.540 ms [late]\n") in faults, faults
-    assert load("--window", "3000", "--assume", "5000", given="servo.txt")[0] == 0
-    assert load("--window", "2060", "--assume", "5000", "--allow", "late targets", given="servo.txt")[0] == 0
-    assert load("--window", "3000", "--assume", "5000", "--werror", given="servo.txt")[0] == 1
+    status, output, faults = load("--window", "3680", "--assume", "5000", given="servo.txt")
+    assert status == 1 and faults.count(": error: ") == 1 and "servo.txt:43: error: targets: at worst 4.900 ms after SYNC" in faults, faults
+    status, output, faults = load("--window", "3679", "--assume", "5000", given="servo.txt")
+    assert ("servo.txt:38: error: controls: at worst 3.680 ms after SYNC, and the window behind SYNC is 3.679 ms: 6 frames of higher "
+            "priority, 3 of them emergencies, in 2.760 ms and one of lower priority that had started, in 0.540 ms [late]\n") in faults, faults
+    assert load("--window", "4900", "--assume", "5000", given="servo.txt")[0] == 0
+    assert load("--window", "3680", "--assume", "5000", "--allow", "late targets", given="servo.txt")[0] == 0
+    assert load("--window", "4900", "--assume", "5000", "--werror", given="servo.txt")[0] == 1
+    page = load("--window", "3680", "--assume", "5000", "--format", "html", given="servo.txt")[1].decode()
+    assert page.count('<tr class="late">') == 1 and re.search('<tr class="late"><td>28Ah</td><td>targets</td>.*<td>NO</td></tr>', page)
+    assert page.index("at worst 4.900 ms") < page.index("<svg") < page.index("<table>")
 
 
 def network_of(*lines, kind=255, inhibit=0, event=0, period=10000):
@@ -147,7 +161,7 @@ def test_load_says_what_it_takes_for_granted():
 def test_load_takes_heartbeats_that_an_event_sets():
     """The least consumer time is none, so the deadline is the own period: that which the event sets."""
     status, output, _ = load("--format", "csv", given=network_of("param 5 1017 0 500", "event 1 2900000 set 5 1017 0 200", period=0, inhibit=1000))
-    row = rows_of(output)[1]
+    row = next(row for row in rows_of(output) if row["COB-ID"] == "705h")
     assert status == 0 and row["Comes"] == "each 200 ms" and row["Deadline [ms]"] == "200.000", row
 
 
@@ -155,9 +169,10 @@ def test_load_for_programs():
     status, output, faults = load("--json")
     whole = json.loads(output)
     assert status == 0 and not faults and whole["errors"] == 0 and whole["warnings"] == 1
-    assert [frame["frames"] for frame in whole["frames"]][:2] == ["outputs", "infeed_inputs"]
-    assert whole["frames"][1]["time_us"] == 220 and whole["frames"][1]["time_stuffed_us"] == 260
-    assert whole["frames"][1]["wait_us"] is None and whole["findings"][0]["code"] == "unbounded"
+    assert [frame["frames"] for frame in whole["frames"]][:5] == [
+        "EMCY of line", "EMCY of infeed", "EMCY of outfeed", "outputs", "infeed_inputs"]
+    assert whole["frames"][4]["time_us"] == 220 and whole["frames"][4]["time_stuffed_us"] == 260
+    assert whole["frames"][4]["wait_us"] is None and whole["findings"][0]["code"] == "unbounded"
     assert load("--junit", "report.xml", "--werror")[0] == 1
     suite = xml.parse("report.xml").getroot().find("testsuite")
     assert [case.get("name") for case in suite if case.find("failure") is not None] == ["message outputs"]
@@ -167,18 +182,23 @@ def test_load_draws_a_bar_for_each_identifier():
     output = load("--format", "svg", "--assume", "10000")[1].decode()
     picture = xml.fromstring(output)
     texts = [each.text for each in picture.iter("{http://www.w3.org/2000/svg}text")]
-    # 181h: 260 us of blocking and 300 us itself; 18Bh and 18Ch: 260 us more each; heartbeats behind them.
-    for text in ("181h outputs", "0.560", "18Bh infeed_inputs", "0.820", "1.080", "77Fh heartbeat of manager", "its own frame"):
+    # 181h: 540 us of blocking, 3 x 540 us of emergencies and 300 us itself; 18Bh and 18Ch: 260 us more each; heartbeats behind them.
+    for text in ("181h outputs", "2.460", "18Bh infeed_inputs", "2.720", "2.980", "77Fh heartbeat of manager", "its own frame"):
         assert text in texts, (text, texts)
     page = load("--format", "html", "--assume", "10000", "--title", "<&>")[1].decode()
     assert output in page and "<title>&lt;&amp;&gt;</title>" in page and page.count("<h2>") == 3 and "src=" not in page
-    assert load("--format", "svg")[1].count(b"no bound") == 7
+    assert load("--format", "svg")[1].count(b"no bound") == 8
 
 
 def test_load_as_markdown():
     output = load("--format", "markdown", "--table", "boot")[1].decode()
     # line: 2 reads of its identity and 18 entries in 24 writes: 52 frames of 111 bits and 4 us, configured as explain tells it.
     assert "| 1 | line | 18 | 52 | 23.088 | 28.080 | 23.308 |" in output, output
+    rows = [[cell.strip() for cell in line.split("|")[1:-1]] for line in output.splitlines() if line.startswith("| ")]
+    nodes, whole = [row for row in rows if row[0].isdigit()], next(row for row in rows if row[0] == "-")
+    assert len(nodes) == 3 and whole[1] == "all of the manager's SDO" and whole[6] == "60.244"
+    assert [sum(int(row[place]) for row in nodes) for place in (2, 3)] == [int(whole[2]), int(whole[3])], rows
+    assert abs(sum(float(row[4]) for row in nodes) - float(whole[4])) < 0.001
 
 
 def test_load_on_bad_input():
@@ -187,12 +207,131 @@ def test_load_on_bad_input():
     for name, says in (("nosuch.txt", "No such file"), ("binary", "this is no text"), ("cut.txt", "0 of the 3 lines")):
         is_refused(load(given=name), says)
     for words, says in ((("--window", "x"), "invalid int"), (("--window", "0"), "--window is 1 to 10,000,000"),
+                        (("--foreign", "301:9:1000"), "--foreign is ID:BYTES:US"), (("--foreign", "800:8:1000"), "and not 800:8:1000"),
+                        (("--foreign", "301:8"), "--foreign is ID:BYTES:US"), (("--foreign", "301:8:0"), "--foreign is ID:BYTES:US"),
+                        (("--foreign", "20000000:8:1"), "and not 20000000:8:1"), (("--with", "nosuch.log"), "No such file"),
                         (("--assume", "10000001"), "--assume is 1 to 10,000,000"), (("--format", "pdf"), "invalid choice")):
         is_refused(load(*words), says)
     put("empty.txt", b"bitrate 500\n")
     status, output, faults = load(given="empty.txt")
     assert status == 0 and output.count(b"\nnone\n") == 2 and not faults
     assert load("--format", "html", given="empty.txt")[0] == load("--format", "svg", given="empty.txt")[0] == 0
+
+
+# A second program for the worst cases, written apart from the first: of all streams of the bus, with no sums and no steps saved.
+
+def arrivals(stream, time):
+    """How many frames of a stream come in a time whose end counts."""
+    _, _, period, jitter = stream
+    return 1 if period is None else (time + jitter) // period + 1
+
+
+def second_opinion(streams, bit, place):
+    """The longest wait of the stream at a place, from when its frame is ready: priority, duration, period (None: once), jitter each."""
+    priority, duration, period, jitter = streams[place]
+    others = streams[:place] + streams[place + 1:]
+    higher = [each for each in others if each[0] <= priority]
+    blocking = max((each[1] for each in others if each[0] > priority), default=0)
+
+    def until_quiet(start, own):
+        """The first moment from a start on at which what came till then is sent, `own` frames of this stream included."""
+        while True:
+            sent = blocking + own(start) * duration + sum(arrivals(each, start - 1) * each[1] for each in higher)
+            if sent == start:
+                return start
+            start = sent
+
+    busy, worst, number = until_quiet(duration, lambda time: arrivals(streams[place], time - 1)), 0, 0
+    while number < arrivals(streams[place], busy - 1):
+        start = blocking + number * duration
+        while True:
+            sent = blocking + number * duration + sum(arrivals(each, start + bit - 1) * each[1] for each in higher)
+            if sent == start:
+                break
+            start = sent
+        ready = 0 if number == 0 else max(number * (period or 0) - jitter, 0)
+        worst, number = max(worst, start + duration - ready), number + 1
+    return worst
+
+
+def durations(size, bit, is_extended, is_stuffed):
+    """How long a frame takes: 44 bits and 3 of intermission, 20 more by 29 bits; a stuff bit behind each four of those that count."""
+    counted = (54 if is_extended else 34) + 8 * size
+    return (counted + 13 + (counted - 1) // 4 * is_stuffed) * bit
+
+
+def expected_waits(whole, bit, foreign, is_stuffed):
+    """The waits of a network's own frames: with an emergency of each node, one SDO frame, and these frames of others."""
+    key = "time_stuffed_us" if is_stuffed else "time_us"
+    own = [each for each in whole["frames"] if not each["once"] and not each["foreign"]]
+    streams = [((each["identifier"], 0), each[key], each["period_us"], 0) for each in own]
+    streams += [((0x80 + node["node"], 0), durations(8, bit, False, is_stuffed), None, 0) for node in whole["nodes"]]
+    streams.append(((0x580 + whole["nodes"][0]["node"], 0), durations(8, bit, False, is_stuffed), None, 0))
+    streams += [(priority, durations(size, bit, is_extended, is_stuffed), period, jitter)
+                for priority, size, is_extended, period, jitter in foreign]
+    sync = next((place for place, each in enumerate(own) if each["identifier"] == 0x80), None)
+    late = second_opinion(streams, bit, sync) - durations(own[sync]["bytes"], bit, False, False) if sync is not None else 0
+    for place, each in enumerate(own):
+        if each["jitter_us"]:
+            assert each["jitter_us"] == late or not is_stuffed, each
+            streams[place] = (*streams[place][:3], late)
+    return {each["frames"]: second_opinion(streams, bit, place) for place, each in enumerate(own)}
+
+
+def same_as_the_second(words, given, bit, foreign=()):
+    """The waits of `load` are those of the second program."""
+    status, output, faults = load("--json", *words, given=given)
+    assert status in (0, 1), faults
+    whole = json.loads(output)
+    for is_stuffed, key in ((False, "wait_us"), (True, "wait_stuffed_us")):
+        found = {each["frames"]: each[key] for each in whole["frames"] if not each["once"] and not each["foreign"]}
+        assert None not in found.values() and len(found) >= 7, found
+        assert found == expected_waits(whole, bit, foreign, is_stuffed), (is_stuffed, found)
+    return whole
+
+
+def test_a_second_program_finds_the_same_waits():
+    same_as_the_second(("--assume", "5000"), example("servo_axes.txt"), 4)
+    same_as_the_second(("--assume", "7000"), example("io_modules.txt"), 4)
+    same_as_the_second(("--assume", "3000"), example("network.txt"), 2)
+
+
+def test_foreign_frames_that_the_user_names():
+    """18FEF100h has the first bits of 63Fh, and stands behind SDO; CF00400h those of 33Ch; 100h goes before each PDO."""
+    words = ("--foreign", "100:8:3000", "--foreign", "18FEF100:8:20000", "--foreign", "0CF00400:3:1500", "--foreign", "18c:2:9000")
+    foreign = [((0x100, 0), 8, False, 3000, 0), ((0x63F, 1), 8, True, 20000, 0), ((0x33C, 1), 3, True, 1500, 0), ((0x18C, 0), 2, False, 9000, 0)]
+    whole = same_as_the_second(("--assume", "5000", *words), example("servo_axes.txt"), 4, foreign)
+    others = [each for each in whole["frames"] if each["foreign"]]
+    assert [(each["identifier"], each["extended"], each["time_us"], each["late"]) for each in others] == [
+        (0x100, False, 444, None), (0x18C, False, 252, None), (0x0CF00400, True, 364, None), (0x18FEF100, True, 524, None)]
+    assert "with 4 identifiers of others" in load(*words)[1].decode()
+
+
+def test_an_identifier_of_29_bits_stands_behind_its_first_11():
+    """18C00000h begins as 630h: that of 11 bits goes first, the next one behind it."""
+    rows = rows_of(load("--format", "csv", "--foreign", "18C00000:1:9000", "--foreign", "630:1:9000", "--foreign", "631:1:9000")[1])
+    assert [row["COB-ID"] for row in rows if row["Frames"].startswith("foreign")] == ["630h", "18C00000h", "631h"], rows
+
+
+def test_foreign_frames_of_a_recording():
+    """301h comes at 0, 10, 18 and 30 ms: each 10 ms on an average, once 2 ms sooner. 302h comes once. The network's own don't count."""
+    lines = [(0, "301#1122"), (1000, "302#11"), (4000, "18FEF100#1122334455667788"), (10000, "301#11223344"), (11000, "181#0000"),
+             (18000, "301#11"), (19000, "080#"), (24000, "18FEF100#11"), (30000, "301#"), (31000, "701#05"), (32000, "081#0000000000000000")]
+    put("bus.log", "".join(f"({10 + time / 1e6:.6f}) can0 {frame}\n" for time, frame in lines).encode())
+    foreign = [((0x301, 0), 4, False, 10000, 2000), ((0x302, 0), 1, False, None, 0), ((0x63F, 1), 8, True, 20000, 0)]
+    whole = same_as_the_second(("--assume", "5000", "--with", "bus.log"), example("servo_axes.txt"), 4, foreign)
+    others = [each for each in whole["frames"] if each["foreign"]]
+    assert [(each["frames"], each["bytes"], each["period_us"], each["jitter_us"], each["once"]) for each in others] == [
+        ("foreign 301h", 4, 10000, 2000, False), ("foreign 302h", 1, None, 0, True), ("foreign 18FEF100h", 8, 20000, 0, False)], others
+
+
+def test_sdo_of_a_recording_counts_once_the_network_is_started():
+    sdo = "601#4017100000000000", "581#4B17100064000000"
+    lines = [(0, "701#00"), (1000, sdo[0]), (1500, sdo[1]), (9000, "000#0101"), (20000, sdo[0]), (21000, sdo[1]), (50000, sdo[0]), (51000, sdo[1])]
+    put("bus.log", "".join(f"({10 + time / 1e6:.6f}) can0 {frame}\n" for time, frame in lines).encode())
+    whole = json.loads(load("--json", "--with", "bus.log", given=example("servo_axes.txt"))[1])
+    assert [(each["frames"], each["period_us"]) for each in whole["frames"] if each["foreign"]] == [
+        ("foreign 581h", 30000), ("foreign 601h", 30000)]
 
 
 def judged(seed, program):
@@ -205,14 +344,25 @@ def judged(seed, program):
               if each["seen_us"] and each["wait_us"] and not each["seen_us"] <= each["wait_us"]]
     wrong += [f"{each['frames']}: with stuff bits {each['wait_stuffed_us']}" for each in frames
               if each["wait_stuffed_us"] and each["wait_stuffed_us"] < each["wait_us"]]
-    pdos = [each for each in frames if 0x180 < each["identifier"] < 0x700 and each["wait_us"] and each["seen_us"]]
-    return wrong, sum(each["share"] for each in frames), max((each["seen_us"] / each["wait_us"] for each in pdos), default=0)
+    return wrong, sum(each["share"] or 0 for each in frames), nearness(frames)
+
+
+def nearness(frames):
+    """How near the trace comes to the bound of a PDO, at most: to that of the second program, without emergencies and SDO."""
+    own = [each for each in frames if not each["once"]]
+    bit = next((each["time_us"] // (47 + 8 * each["bytes"]) for each in own), 1)
+    streams = [(each["identifier"], each["time_us"], each["period_us"], 0) for each in own]
+    sync = next((place for place, each in enumerate(own) if each["identifier"] == 0x80), None)
+    late = second_opinion(streams, bit, sync) - own[sync]["time_us"] if sync is not None else 0
+    streams = [(*stream[:3], late if each["jitter_us"] else 0) for stream, each in zip(streams, own)]
+    return max((each["seen_us"] / second_opinion(streams, bit, place) for place, each in enumerate(own)
+                if 0x180 < each["identifier"] < 0x700 and each["wait_us"] and each["seen_us"]), default=0)
 
 
 def test_load_bounds_what_generated_networks_show():
     for seed in (3, 13):
-        wrong, share, nearness = judged(seed, recorded())
-        assert not wrong and share > 60 and nearness > 0.8, (seed, wrong, share, nearness)
+        wrong, share, near = judged(seed, recorded())
+        assert not wrong and share > 60 and 0.8 < near <= 1, (seed, wrong, share, near)
 
 
 def generated(seed):
@@ -224,8 +374,8 @@ def all_load_bounds_what_500_networks_show():
     real()
     found = in_parallel(generated, list(range(500)))
     assert not [wrong for wrong, _, _ in found if wrong], found
-    full = [nearness for _, share, nearness in found if share >= 60]
-    near = sum(nearness >= 0.9 for nearness in full)
+    full = [each for _, share, each in found if share >= 60]
+    near = sum(each >= 0.9 for each in full)
     print(f"load: of 500 networks {len(full)} have a bus that is full to 60 % or more; in {near} of these the longest wait of a PDO is "
           f"within a tenth of its bound")
     assert len(full) >= 100 and near * 10 >= len(full), (len(full), near)

@@ -83,6 +83,40 @@ def test_hints_on_likely_slips():
         "no words behind bitrate, where it has 1: bitrate RATE"]
 
 
+def test_a_name_where_a_number_belongs_has_the_number():
+    script = b"eds d 0\nnode 5 pump d\nparam pump 1017 0 100\nsink m 1 pump 2000 0\nevent 1 5 nmt 1 pump\n"
+    script += b"param fan 1017 0 100\n"
+    assert [hint for _, hint in hints(script, b"ok\nok\n" + b"refused 2 Syntax\n" * 4)] == [
+        "ID is a number: pump is node 5", "ID is a number: pump is node 5", "ID is a number: pump is node 5",
+        "ID is a decimal number of at most 10 digits, not fan"]
+
+
+def test_a_unit_behind_a_number_has_it_in_the_unit_of_its_place():
+    script = b"horizon 200ms\nhorizon 1.5\nevent 1 1.25s power 5 on\nmanager 127 10ms 0 500\nmanager 127 0 0 0.5s\n"
+    script += b"message m 5 1 255 5ms 0 0\nmessage m 5 1 255 0 1.5ms 0\nevent 1 5 nmt start 5\nevent 1 5 nmt begin 5\n"
+    assert [hint for _, hint in hints(script, b"refused 2 Syntax\n" * 9)] == [
+        "US is in microseconds: 200000", "US is in whole microseconds, not 1.5", "TIME is in microseconds: 1250000",
+        "SYNC_US is in microseconds: 10000", "TIMEOUT_MS is in milliseconds: 500",
+        "INHIBIT is in multiples of 100 microseconds: 50", "EVENT is in whole milliseconds, not 1.5ms",
+        "an NMT command is a number: start is 1", "CMD is a decimal number of at most 10 digits, not begin"]
+
+
+def test_a_file_that_is_not_there_may_be_another():
+    put("IO16.eds", b"[1017]\nDataType=6\n")
+    for file, hint in (('"IO16.eds"', "a file's name has no quotation marks: <IO16.eds"),
+                       (".\\IO16.eds", "folders are told apart by /: <./IO16.eds"),
+                       ("io16.EDS", "there is IO16.eds, and upper and lower case differ")):
+        put("net.txt", f"eds d <{file}\n".encode())
+        is_refused(run("expand", "net.txt"), "net.txt:1: ", "No such file", hint)
+    put("net.txt", b"<io16.eds\n")
+    is_refused(run("expand", "net.txt"), "there is IO16.eds")
+    put("net.txt", b"eds d <nosuch.eds\n")
+    assert run("expand", "net.txt")[2] == "cobtool: net.txt:1: nosuch.eds: No such file or directory\n"
+    put("net.txt", b'eds d "IO16.eds"\n')
+    put("replies.txt", b"refused 2 Syntax\n")
+    assert b"`eds d <IO16.eds`" in run("refusals", "net.txt", "replies.txt")[1]
+
+
 def test_refusals_names_the_script_that_is_taken_in():
     put("base.txt", b"# base\nnode 5 pump drive\n")
     put("net.txt", b"<base.txt\nparam 5 1017 0 100\n")

@@ -15,7 +15,8 @@ def test_eds_counts_as_the_program_does():
                         (b"[1017]\r\nDataType=6\r\n", b"eds x 2\n[1017]\nDataType=6\n"),
                         (b"[1017]\r\r\n\n\r", b"eds x 3\n[1017]\n\n\n"), (b"a\rb\n", b"eds x 1\na\rb\n"),
                         (b"\xef\xbb\xbf; K\xe4lte\n", b"eds x 1\n\xef\xbb\xbf; K\xe4lte\n")):
-        is_fine(run("eds", "x", "-", given=text), block)
+        status, output, faults = run("eds", "--allow", "sheet x type", "x", "-", given=text)
+        assert status == 0 and output == block and faults in ("", "--allow: note: nothing is accepted by 'sheet x type'\n"), faults
 
 
 def test_eds_refuses_what_the_program_would_refuse():
@@ -115,7 +116,7 @@ def test_values_of_pdo_objects_are_told():
     sheet = b"[1017]\nDataType=6\nParameterValue=5\n[1400sub1]\nDataType=7\nParameterValue=0x201\n[1A00]\nObjectType=8\n"
     sheet += b"DataType=7\nCompactSubObj=2\n[1A00Value]\nNrOfEntries=1\n1=0x20000008\n"
     put("x.dcf", sheet)
-    told = "x.dcf:6: warning: 2 values of PDO objects are not used, as messages make them"
+    told = "2 values of PDO objects are not used, as messages make them"
     block = b"eds x 13\n" + sheet
-    for done in (run("eds", "x", "x.dcf"), run("expand", "-", given=b"eds x <x.dcf\n")):
-        assert done[:2] == (0, block) and done[2].startswith(told) and len(done[2].splitlines()) == 1, done
+    for done, who in ((run("eds", "--allow", "sheet x pdo", "x", "x.dcf"), "data sheet x: "), (run("expand", "-", given=b"eds x <x.dcf\n"), "")):
+        assert done[:2] == (0, block) and done[2].startswith(f"x.dcf:6: warning: {who}{told}") and len(done[2].splitlines()) == 1, done

@@ -290,7 +290,7 @@ def test_the_page_can_be_read_aloud():
         nodes = page.ask("Accessibility.getFullAXTree")["nodes"]
         named = {(each["role"]["value"], each.get("name", {}).get("value", "")) for each in nodes if not each["ignored"]}
         for role, name in (("heading", "servo_axes.txt"), ("button", "zoom in"), ("button", "zoom out"), ("button", "show the whole run"),
-                           ("searchbox", "search for a node by name or number"), ("toolbar", "timeline")):
+                           ("searchbox", "search for a node, a message or an identifier"), ("toolbar", "timeline")):
             assert (role, name) in named, (role, name, sorted(named))
         pressed = [each for each in nodes if each.get("name", {}).get("value", "").startswith("EMCY") and each["role"]["value"] == "button"]
         assert pressed, "kinds are buttons"

@@ -8,7 +8,7 @@ use Rattle.std.specs.Cmp.Lexicographic.{bytes_decides}
 use Rattle.std.proofs.Common.{ap}
 use Rattle.ini_text.specs.Content.{lower_case}
 
--- each key is the folded name of its value
+-- each key is the name of its value in lower case
 abbrev pub AreFolded : {X : Type 0} → (X → List ℕ) → List (Vec ℕ × X) → Type 0
 AreFolded name es = AllByRecursion (λ e. e.0.items ≡ lower_case (name e.1)) es
 

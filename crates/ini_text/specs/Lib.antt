@@ -5,6 +5,7 @@ pub mod Name
 pub mod CompactPdo
 pub mod Content
 pub mod Keyed
+pub mod Seed
 pub mod Reading
 pub mod Change
 pub mod First

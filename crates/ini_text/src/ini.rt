@@ -17,6 +17,7 @@ use crate::number::is_zero;
 use crate::section::Section;
 use crate::table::{add_at, open, print, set_in};
 use crate::text::{has_bad_byte, is_out_of_range, without_mark};
+use crate::text_hash::TextHash;
 use base::next_line;
 use indexmap::IndexMap;
 use std::alloc::{AllocError, Global};
@@ -27,7 +28,7 @@ use std::marker::Model;
 /// case, and the first spelling stands.
 #[derive(Drop)]
 pub struct Ini {
-    sections: IndexMap<Vec<u8>, Section>,
+    sections: IndexMap<Vec<u8>, Section, TextHash>,
     warnings: Vec<u32>,
 }
 
@@ -54,7 +55,7 @@ fn is_misused(key: &[u8], value: &[u8]) -> bool
 
 /// Takes one line, and answers the position of the section that the next lines stand in.
 fn take_line(
-    sections: &mut IndexMap<Vec<u8>, Section>,
+    sections: &mut IndexMap<Vec<u8>, Section, TextHash>,
     warnings: &mut Vec<u32>,
     alloc: Global,
     current: Option<usize>,
@@ -97,7 +98,7 @@ fn read_lines(alloc: Global, text: &[u8]) -> Result<Ini, AllocError>
     requires { length text.now ≤ 1048576 }
     ensures { IfOk result (λ ini. ini ≡ (run start (line_list text.now)).content) }
 {
-    let mut sections = IndexMap::new(alloc);
+    let mut sections = IndexMap::with_hasher(alloc, TextHash::of(text));
     let mut warnings = Vec::new(alloc);
     let mut current = None;
     let mut count = 0;
@@ -121,7 +122,8 @@ impl Ini {
     /// one, and of equal keys the first counts.
     ///
     /// Longer texts and lines are `Range`, and a byte below 20h other than tab, LF and CR is
-    /// `BadByte`; `Range` goes first. Takes time and memory linear in the text.
+    /// `BadByte`; `Range` goes first. Takes time and memory linear in the text, whatever names it has:
+    /// they are hashed from a number that all its bytes make.
     #[tactic(auto, using(crate::proofs::StateLemmas::run_start), unfolding(crate::specs::Content::content_of))]
     pub fn read(alloc: Global, text: &[u8]) -> Result<Ini, IniFault>
         ensures range { IsErrOf result IniFault.Range ↔ IsTrue (is_out_of_range text.now) }

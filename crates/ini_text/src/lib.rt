@@ -12,6 +12,7 @@ mod pair;
 mod section;
 mod table;
 mod text;
+mod text_hash;
 
 pub use comparing::same_sections;
 pub use fault::IniFault;

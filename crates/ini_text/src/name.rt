@@ -29,7 +29,7 @@ pub(crate) fn same(a: &[u8], b: &[u8]) -> bool
     a.eq_ignore_ascii_case(b)
 }
 
-/// Whether `key` is the folded `name`.
+/// Whether `key` is `name` in lower case.
 fn is_folded(name: &[u8], key: &[u8]) -> bool
     ensures { result ≡ bytes_eq (lower_case name.now) key.now }
 {
@@ -48,7 +48,7 @@ fn is_folded(name: &[u8], key: &[u8]) -> bool
     key.is_empty()
 }
 
-/// Feeds a name to a hasher, as its folded bytes are fed.
+/// Feeds a name to a hasher, as its bytes in lower case are fed.
 pub(crate) fn hash_name<H: Hasher>(name: &[u8], state: &mut H)
     ensures { state.new ≡ fold H.write state.old (name_writes name.now) }
 {
@@ -99,7 +99,7 @@ impl Equivalent<Pair> for Name<'_> {
     }
 }
 
-/// Stands for the folded name.
+/// Stands for the name in lower case.
 impl Equivalent<Vec<u8>> for Name<'_> {
     ghost equivalent = { λ a k. bytes_eq (lower_case a.0.now) k.items };
 

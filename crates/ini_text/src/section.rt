@@ -6,6 +6,7 @@ ghost use Rattle.ini_text.specs.Change.{pair_text};
 
 use crate::name::Name;
 use crate::pair::Pair;
+use crate::text_hash::TextHash;
 use indexmap::IndexSet;
 use std::alloc::{AllocError, Global};
 use std::marker::Model;
@@ -24,7 +25,7 @@ fn print_pairs(pairs: &[Pair], out: &mut Vec<u8>) -> Result<(), AllocError>
 #[derive(Drop)]
 pub struct Section {
     name: Vec<u8>,
-    pairs: IndexSet<Pair>,
+    pairs: IndexSet<Pair, TextHash>,
 }
 
 impl Model for Section {
@@ -40,12 +41,12 @@ impl Section {
     ghost use Rattle.ini_text.specs.Reading.{has_key, with_pair};
     ghost use Rattle.ini_text.specs.Change.{put_in_section, section_text};
 
-    pub(crate) fn new(alloc: Global, name: &[u8]) -> Result<Self, AllocError>
+    pub(crate) fn new(alloc: Global, name: &[u8], hash: TextHash) -> Result<Self, AllocError>
         ensures { IfOk result (λ s. s ≡ record { name = name.now; pairs = [] }) }
     {
         Ok(Section {
             name: Vec::from_slice(alloc, name)?,
-            pairs: IndexSet::new(alloc),
+            pairs: IndexSet::with_hasher(alloc, hash),
         })
     }
 

@@ -7,12 +7,13 @@ ghost use Rattle.ini_text.specs.Change.{with_value, text_of};
 
 use crate::name::{Name, lower_case};
 use crate::section::Section;
+use crate::text_hash::TextHash;
 use indexmap::IndexMap;
 use std::alloc::{AllocError, Global};
 
 /// The position of the section of this name, which goes last where it is new.
 pub(crate) fn open(
-    sections: &mut IndexMap<Vec<u8>, Section>,
+    sections: &mut IndexMap<Vec<u8>, Section, TextHash>,
     alloc: Global,
     name: &[u8],
 ) -> Result<usize, AllocError>
@@ -26,14 +27,14 @@ pub(crate) fn open(
         return Ok(position);
     }
     let folded = lower_case(alloc, name)?;
-    let section = Section::new(alloc, name)?;
+    let section = Section::new(alloc, name, *sections.hasher())?;
     let (position, _) = sections.insert_full(folded, section)?;
     Ok(position)
 }
 
 /// Adds a pair to the section at a position, unless that has the key, and answers whether it was new.
 pub(crate) fn add_at(
-    sections: &mut IndexMap<Vec<u8>, Section>,
+    sections: &mut IndexMap<Vec<u8>, Section, TextHash>,
     alloc: Global,
     position: usize,
     key: &[u8],
@@ -55,7 +56,7 @@ pub(crate) fn add_at(
 
 /// Sets the value of a key in the section of this name, which goes last where it is new.
 pub(crate) fn set_in(
-    sections: &mut IndexMap<Vec<u8>, Section>,
+    sections: &mut IndexMap<Vec<u8>, Section, TextHash>,
     alloc: Global,
     name: &[u8],
     key: &[u8],
@@ -71,7 +72,7 @@ pub(crate) fn set_in(
         Some(section) => section.set(alloc, key, value),
         None => {
             let folded = lower_case(alloc, name)?;
-            let mut section = Section::new(alloc, name)?;
+            let mut section = Section::new(alloc, name, *sections.hasher())?;
             section.set(alloc, key, value)?;
             sections.insert(folded, section)?;
             Ok(())

@@ -1,23 +1,33 @@
 """Says all that is wrong with a script, as editors and compilers say it."""
-from .. import acceptance, findings, output, session, tool
+from .. import acceptance, files_check, judgement, network_files, output, session, tool
 from ..evidence import Evidence
 from ..report import Report
+from ..script_order import ScriptOrder
 
 SUMMARY = "say all that is wrong with a script, each with its line and cause"
 
 AFTER = f"""Runs cobench on SCRIPT, and tells each refused command, each diagnostic of the
 project that the script makes, each node that fails to boot or isn't configured at
-the horizon, and data sheets with values of PDO objects, which aren't used:
+the horizon, each emergency of the planned run that no event explains, with the
+nodes that it stops, and each message that never comes. Warnings tell of lines that
+a later one replaces, of messages without a source or a sink, of events behind the
+horizon, and of data sheets that rule the bit rate out or have faults:
 
   net.txt:12: error: message y: sink 1 of .. has 32 bits, and source 1 .. 16 [E09]
 
-The line is that of the command, or of the data sheet, that it is about. Below
-stands in one line how much there is, and how many nodes booted.
+The line is that of the command, or of the data sheet, that it is about; they stand
+in the order of the script. Below stands in one line how much there is, and how many
+nodes booted.
 
 {acceptance.HELP}
 
-{session.PROGRAM} Status: 0 without errors, 1 with some, 2 where the script can't be
-read, or cobench can't be run.
+With --files DIR it says too which files of that folder aren't those of one export
+of the script as it is now: by export.json, which cobtool export writes there, a
+file is edited, missing, stale (of another state of the script), or one of a mix
+(an export was interrupted).
+
+{session.PROGRAM} Status: 0 without errors, 1 with some, 2 where the script or DIR
+can't be read, or cobench can't be run.
 
   cobtool check --werror --allow 'E02 default 5' network.txt"""
 
@@ -25,6 +35,8 @@ read, or cobench can't be run.
 def add_arguments(parser):
     """The words that `export` has too."""
     acceptance.add_arguments(parser)
+    parser.add_argument("--sort", choices=["line", "code"], default="line",
+                        help="the findings by the lines of the script, or by what kind they are; by line without it")
     parser.add_argument("--json", action="store_true", help="print the findings as JSON, the accepted ones too")
     parser.add_argument("--junit", metavar="FILE", help="write them as JUnit XML too, a test case for each part of the project")
     session.add_arguments(parser)
@@ -33,14 +45,18 @@ def add_arguments(parser):
 def arguments(parser):
     parser.epilog = AFTER
     parser.add_argument("script", metavar="SCRIPT", help="the script, with comments and files; - is the standard input")
+    parser.add_argument("--files", metavar="DIR", help="say which files of an export aren't what the script makes")
     add_arguments(parser)
 
 
-def report_of(options, queries=()):
-    """The report of a command's SCRIPT; these queries are asked too."""
+def report_of(options, queries=(), folder=None):
+    """The report of a command's SCRIPT, and of a folder with its files; these queries are asked too."""
     answered = session.run(options.script, options.cobench, Evidence.QUERIES + tuple(queries))
-    found = findings.of(answered)
-    acceptance.judge(found, options)
+    found = judgement.of_check(answered)
+    found = found if options.sort == "code" else ScriptOrder(answered.pairs).sorted(found)
+    if folder is not None:
+        found += files_check.findings_of(folder, network_files.files_of(answered))
+    acceptance.judge(found, options, acceptance.PLAN | acceptance.SCRIPT | acceptance.FILES)
     report = Report(answered, found)
     if options.junit:
         output.write_file(options.junit, report.as_junit().encode("utf-8", "surrogateescape"))
@@ -48,6 +64,6 @@ def report_of(options, queries=()):
 
 
 def run(options):
-    report = report_of(options)
+    report = report_of(options, () if options.files is None else ("dcf",), options.files)
     tool.put(report.as_json() if options.json else report.as_text())
     return report.status

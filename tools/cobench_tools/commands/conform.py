@@ -1,13 +1,14 @@
 """Says what was recorded on a bus beside what a script plans for it."""
 import os
 
-from .. import acceptance, bundle, findings, output, session, tool
+from .. import acceptance, bundle, findings, judgement, output, session, tool, trace
 from ..conform import choice
+from ..conform import options as judging
 from ..conform import tolerance as tolerances
 from ..conform.overlay import Overlay, Recorded
 from ..conform.report import ConformReport
 from ..conform.run import judged
-from ..logs import source
+from ..logs import part, source
 
 SUMMARY = "say what was recorded on a bus beside what a script plans"
 
@@ -16,10 +17,17 @@ cause once, with its line in LOG, how often it was there, first and last:
 
   machine.log:3712: error: node 2 y_axis: its heartbeat comes 152.310 ms after .. [heartbeat-missed]
 
+What is planned to come by itself and never comes is reported too, wherever LOG begins;
+the line `not judged` has what LOG is too short for, with the reason.
+
 LOG is what candump -L of can-utils, Vector's tools (ASC), PEAK's (TRC 1.0 to 2.1) or
-python-can (CSV) have recorded, also packed by gzip; its content says which. It may
-begin and end anywhere, and - is the standard input. Frames with 29-bit identifiers,
-FD, error and remote frames are counted and set aside.
+python-can (CSV) have recorded, also packed by gzip, or what candump prints on a
+terminal; its content says which. BLF and MF4 are read by python-can, where it is
+installed. LOG may begin and end anywhere, and - is the standard input. --from and --to
+take a part of it, by seconds or by a line, as L1234. Error frames and remote frames are
+warnings; frames with 29-bit identifiers and FD frames are counted and set aside. The
+load is that of all frames, at the bit rate of SCRIPT or of --bitrate. A last line that
+is cut is taken where it is accepted by --allow cut.
 
 What the planned run shows itself, as a power cut of the scenario and what follows on
 it, isn't told where LOG has it at the same time. The two are laid on one another by
@@ -41,7 +49,6 @@ read, or cobench can't be run.
 
   cobtool conform --jitter 200 --timeline run.html network.txt machine.log"""
 
-MOST_JITTER, MOST_CLOCK, MOST_WINDOW = 100_000, 20_000, 10_000_000
 
 
 def arguments(parser):
@@ -52,13 +59,9 @@ def arguments(parser):
                         help="the plan is the network at the Nth `trace` of SCRIPT, 0 for its end")
     parser.add_argument("--format", choices=list(source.NAMES), help="read LOG so, whatever it looks like")
     parser.add_argument("--channel", metavar="NAME", help="take the frames of this channel alone, as can0, or 1 of ASC and TRC")
-    parser.add_argument("--jitter", metavar="US", type=int, help="how far each time may be off, in microseconds")
-    parser.add_argument("--clock", metavar="PPM", type=int, help="how far clocks may be off, in parts of a million")
-    parser.add_argument("--window", metavar="US", type=int,
-                        help="the microseconds behind SYNC within which its PDOs have to come; 1007h of each node without it")
-    parser.add_argument("--load", metavar="PERCENT", type=float, help="how full the bus may be in 100 ms")
-    parser.add_argument("--values", action="store_true",
-                        help="the values of PDOs have to be those of the planned run too, as long as it goes")
+    part.add_arguments(parser)
+    parser.add_argument("--bitrate", metavar="KBIT", type=int, choices=trace.BIT_RATES, help="the bit rate of the bus, where it isn't that of SCRIPT")
+    judging.add_arguments(parser)
     parser.add_argument("--timeline", metavar="FILE",
                         help="draw it as an HTML page: each recorded lane above the planned one, the first million frames")
     parser.add_argument("--json", action="store_true", help="print the findings as JSON, the accepted ones too")
@@ -69,11 +72,7 @@ def arguments(parser):
 
 def check(options):
     """Whether the numbers are such that can be."""
-    for name, most, unit in (("jitter", MOST_JITTER, "microseconds"), ("clock", MOST_CLOCK, "parts of a million"),
-                             ("window", MOST_WINDOW, "microseconds"), ("load", 100, "per cent")):
-        number = getattr(options, name)
-        if number is not None and not 0 <= number <= most:
-            raise tool.Fault(f"--{name} is 0 to {most:,} {unit}, not {number:,}")
+    judging.check(options)
     tool.check_one_input(options.script, options.log)
 
 
@@ -82,11 +81,14 @@ def report_of(options, log):
     tolerance = tolerances.Tolerance(options.jitter, options.clock)
     log.slack = tolerance.jitter
     plan = choice.plan_of(options, log, tolerance)
-    drawn = Recorded(plan) if options.timeline else None
+    if options.bitrate:
+        plan.bus_bit = 1000 // options.bitrate
+    drawn = Recorded(plan, tolerance) if options.timeline else None
     judge = judged(plan, log, tolerance, options.window or None, options.load, options.values, [drawn] if drawn else [])
-    own = sum(each.severity == findings.ERROR for each in findings.of(plan.answered))
-    report = ConformReport(plan, judge, log, own)
-    acceptance.judge(report.findings, options)
+    own = judgement.of(plan.answered)
+    report = ConformReport(plan, judge, log)
+    acceptance.judge(own + report.findings, options, acceptance.PLAN | acceptance.LOG)
+    report.own_errors = sum(each.severity == findings.ERROR for each in own if not each.accepted)
     if drawn:
         draw(options, drawn, report)
     return report.judged()
@@ -102,9 +104,15 @@ def draw(options, drawn, report):
     output.write_file(options.timeline, page.encode("utf-8", "surrogateescape"))
 
 
+def opened(options):
+    """The log, of which the last line may be cut where that is accepted."""
+    may_be_cut = any(rule.words[0] == "cut" for rule in acceptance.rules_of(options))
+    return source.Log(options.log, options.format, options.channel, part=part.Part(options.first, options.last), may_be_cut=may_be_cut)
+
+
 def run(options):
     check(options)
-    report = report_of(options, source.Log(options.log, options.format, options.channel))
+    report = report_of(options, opened(options))
     if options.junit:
         output.write_file(options.junit, report.as_junit().encode("utf-8", "surrogateescape"))
     tool.put(report.as_json() if options.json else report.as_text())

@@ -2,7 +2,7 @@
 import os
 import tempfile
 
-from .. import difference, session, tool, versions
+from .. import difference, session, tool, versions, within
 
 SUMMARY = "tell what is other in one script than in another, or than in git's version of it"
 
@@ -48,6 +48,7 @@ def asked(script, options):
     if isinstance(script, str):
         return difference.Side(session.run(script, options.cobench, difference.QUERIES))
     with tempfile.TemporaryDirectory() as root:
+        within.rule.add(root)
         try:
             return difference.Side(session.run(script.put(root), options.cobench, difference.QUERIES))
         except tool.Fault as fault:

@@ -1,9 +1,7 @@
 """Writes the files of a network: what cobench answers for a script, each in a file of its own."""
 import os
-import re
 
-from .. import acceptance, concise, output, session, tool, trace
-from ..logs import writers
+from .. import acceptance, export_folder, manifest, network_files, session, tool
 from . import check
 
 SUMMARY = "check a script, and write the files of its network: DCF, concise DCF, trace"
@@ -12,7 +10,15 @@ AFTER = f"""Tells what `cobtool check` tells. Without an error it writes into DI
 where it isn't there, for each node ID_NAME.dcf (its DCF) and ID_NAME.bin (the bytes
 of its concise DCF, as object 1F22h takes them), and diagnostics.txt, trace.txt,
 trace.log (candump). With --force it writes in spite of errors what the accepted
-commands make. Files that are there are replaced: all of them, or none.
+commands make. Files that are there are replaced: all of them, or none, also where
+it is interrupted. The last file is export.json, with the digest of each one; by it
+`cobtool check --files DIR SCRIPT` says later which of them are others. One export
+at a time writes into a folder: the next one waits, at most ten seconds. What a
+killed one left half done the next one puts in order.
+
+A file of DIR keeps its mode, and a link there is replaced, not followed. Where DIR
+has nothing but the files of an export it changes places as a whole with a new
+folder; what stands in it, as a shell, has to enter it anew.
 
 {acceptance.HELP}
 
@@ -21,38 +27,12 @@ read, cobench can't be run, or DIR can't be written.
 
   cobtool export --allow-from accepted.txt files network.txt"""
 
-NODE_FILE = re.compile(r"[0-9]{1,3}_[A-Za-z0-9_]{1,32}\.(dcf|bin)")
 
-
-def text_of(lines):
-    return b"".join(line + b"\n" for line in lines)
-
-
-def log_of(answered):
-    """The frames of the trace as a log."""
-    return writers.log_of(trace.frames_of(trace.trace_of(answered.lines("trace"))), "log", trace.LOG_START)
-
-
-def files_of(answered):
-    """The name and the bytes of each file of a network."""
-    files = {}
-    for node, (name, _) in sorted(answered.project.nodes.items()):
-        files[f"{node}_{name}.dcf"] = text_of(answered.lines("dcf", node))
-        files[f"{node}_{name}.bin"] = concise.bytes_of(answered.lines("cdcf", node))
-    files["diagnostics.txt"], files["trace.txt"] = text_of(answered.lines("diag")), text_of(answered.lines("trace"))
-    files["trace.log"] = log_of(answered).encode()
-    return files
-
-
-def write(folder, files):
+def write(folder, files, source):
     """Writes all files, and tells of those of nodes that aren't there any more."""
-    try:
-        os.makedirs(folder, exist_ok=True)
-    except OSError as error:
-        raise tool.Fault(f"{folder}: {error.strerror}") from None
-    output.write_files(folder, files)
+    export_folder.write(folder, files, source)
     for name in sorted(os.listdir(folder)):
-        if NODE_FILE.fullmatch(name) and name not in files:
+        if manifest.NODE_FILE.fullmatch(name) and name not in files:
             tool.say(f"{os.path.join(folder, name)} is none of these nodes: of an earlier export?")
 
 
@@ -73,11 +53,19 @@ def arguments(parser):
     check.add_arguments(parser)
 
 
+def check_order(folder, script):
+    """Whether DIR and SCRIPT stand in this order, where the files that are there tell it."""
+    if os.path.isfile(folder) and not os.path.exists(script) and script != "-":
+        raise tool.Fault(f"{script}: No such file or directory; DIR stands first: cobtool export {script} {folder}")
+
+
 def run(options):
+    check_order(options.folder, options.script)
     report = check.report_of(options, ("dcf",))
-    files = files_of(report.answered) if options.force or report.status == tool.DONE else {}
+    files = network_files.files_of(report.answered) if options.force or report.status == tool.DONE else {}
     if files:
-        write(options.folder, files)
+        source = network_files.source_of(report.answered, os.path.basename(options.script), options.cobench)
+        write(options.folder, files, source)
     if options.json:
         tool.put(report.as_json(folder=options.folder, files=sorted(files)))
     else:

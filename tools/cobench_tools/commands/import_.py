@@ -2,7 +2,7 @@
 import os
 import re
 
-from .. import output, tool
+from .. import output, safe_text, tool
 from ..machine import Machine
 
 SUMMARY = "make a script of the DCFs of an existing machine"
@@ -15,7 +15,12 @@ belong together. Of a file as cobench prints them each value becomes a `param`.
 
 What a script can't say is told as FILE:LINE: warning: a value of an entry that is
 read only, an RPDO whose sender is in none of the files, a mapping that fits to no
-value of the sender. Status: 0, or 2 where a file is no DCF, or cobench would
+value of the sender, an identifier that a node takes twice, as an RPDO stays on by its
+default, a key of the commissioning section but NodeID, NodeName and Baudrate. A value
+of a type that cobench doesn't model, as REAL32, stays in the data sheet, and so in
+the DCF; nodes have data sheets of their own where these values differ.
+
+Status: 0, or 2 where a file is no DCF, or cobench would
 refuse it; nothing is printed then.
 
   cobtool import --sheets sheets files/*.dcf > machine.txt"""
@@ -50,6 +55,6 @@ def run(options):
     if options.sheets:
         write_sheets(options.sheets, machine.sheet_files())
     for path, line, severity, words in machine.told:
-        tool.warn(f"{tool.Place(path, line)}: {severity}: {tool.readable(words)}")
+        tool.warn(f"{tool.Place(path, line)}: {severity}: {safe_text.readable(words)}")
     tool.put(text)
     return tool.DONE

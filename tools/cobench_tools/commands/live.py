@@ -1,11 +1,14 @@
 """Keeps a page open that follows a script: what is wrong, files, messages and the run, right after each save."""
+import contextlib
 import os
+import queue
+import secrets
 import signal
 import threading
 import time
-import webbrowser
 
-from .. import session, tool
+from .. import interrupts, session, tool
+from ..live.doorway import Doorway
 from ..live.feed import Feed
 from ..live.follow import Follower
 from ..live.programs import probe
@@ -18,7 +21,14 @@ SCRIPT or a file that it takes in is saved, the edits between the two projects g
 the open cobench, and the page shows what it answers: what is wrong, each node with
 its files, the messages, the run as a timeline and as a table, and what the save
 cost. What the save has changed is marked. A long run comes in parts, its first
-second first: what lies behind is pale until it is simulated. Ctrl-C ends it.
+second first: what lies behind is pale until it is simulated. Ctrl-C ends it, within
+two seconds whatever cobench does.
+
+The address that is printed has a word, made anew each time, that the page, its feed
+and the files ask for, so that other accounts of the machine read nothing; with
+--open-to-all they can. --open hands the browser a file that only you can read, as
+others see the words that programs are started with; a browser that can't read it,
+as one in a snap, shows nothing: open the printed address there.
 
 {session.PROGRAM} Status: 0 once it is ended, 2 where SCRIPT isn't there, cobench
 can't be run, or the port is in use.
@@ -30,11 +40,17 @@ LOOKS = 0.02, 0.2   # seconds between two looks at the files, and where a file s
 SHARE = 0.05        # of the time that goes into looks, where it isn't
 
 
+SOON = 0.25         # seconds for which what is being done is waited for at the end; and once it was ended by force
+
+
 def arguments(parser):
     parser.epilog = AFTER
     parser.add_argument("script", metavar="SCRIPT")
-    parser.add_argument("--port", metavar="N", type=int, default=PORT, help=f"serve at this port, not at {PORT}; 0 takes a free one")
+    parser.add_argument("--port", metavar="N", type=int, default=PORT,
+                        help=f"serve at this port, not at {PORT}; 0 takes a free one")
     parser.add_argument("--open", action="store_true", help="open the page in the browser")
+    parser.add_argument("--open-to-all", action="store_true",
+                        help="let all accounts of this machine read the page: its address has no word")
     session.add_arguments(parser)
 
 
@@ -42,14 +58,11 @@ def server_of(options, feed, follower):
     """The server of the page."""
     if not 0 <= options.port <= 65535:
         raise tool.Fault(f"a port is 0 to 65535, not {options.port}")
+    word = "" if options.open_to_all else secrets.token_urlsafe(16)
     try:
-        return Server(options.port, os.path.basename(options.script), feed, follower.saved)
+        return Server(options.port, os.path.basename(options.script), feed, follower.saved, word)
     except OSError as error:
         raise tool.Fault(f"port {options.port}: {error.strerror}; --port takes another") from None
-
-
-def stop(*_):
-    raise KeyboardInterrupt
 
 
 def pause_after(look):
@@ -57,34 +70,84 @@ def pause_after(look):
     return min(max(LOOKS[0], look / SHARE), LOOKS[1])
 
 
-def follow(follower):
-    """Looks at the files again and again, until Ctrl-C or the system's wish to end."""
-    signal.signal(signal.SIGTERM, stop)
-    try:
-        while True:
+class Live(threading.Thread):
+    """Follows a script and serves its page in a thread of its own, which the main one can end whatever it waits for.
+
+    ends  gets what went wrong, where it can't go on
+    """
+
+    def __init__(self, options, ends):
+        super().__init__(daemon=True)
+        self.options, self.ends, self.is_over = options, ends, False
+        self.feed, self.server, self.doorway = Feed(), None, Doorway()
+        self.follower = Follower(options.script, session.program(options.cobench), self.feed)
+
+    def run(self):
+        try:
+            self.begin()
+            self.follow()
+        except BaseException as error:
+            self.ends.put(error)
+
+    def begin(self):
+        """Has the page there, and says where."""
+        probe(self.follower.words, self.follower.children)
+        self.server = server_of(self.options, self.feed, self.follower)
+        threading.Thread(target=self.server.serve, daemon=True).start()
+        tool.put(f"{self.server.address} follows {self.options.script}; Ctrl-C ends it\n")
+        if self.options.open:
+            self.doorway.open(self.server.address, bool(self.server.word))
+
+    def follow(self):
+        """Looks at the files again and again."""
+        while not self.is_over:
             start = time.monotonic()
-            is_other = follower.look()
+            is_other = self.follower.look()
             time.sleep(LOOKS[0] if is_other else pause_after(time.monotonic() - start))
-    except KeyboardInterrupt:
-        pass
+
+    def close(self):
+        """Ends it: what cobench is doing isn't waited for."""
+        self.is_over = True
+        self.join(SOON)
+        if self.is_alive():
+            self.follower.kill()
+            self.join(SOON)
+        if not self.is_alive():
+            self.follower.close()
+        if self.server:
+            self.server.close()
+        self.doorway.close()
+
+
+def ends_by_signals():
+    """What gets None with the first signal that asks for the end.
+
+    Shells have the jobs of a script ignore SIGINT: it ends this one all the same. Under nohup SIGHUP doesn't.
+    """
+    ends = queue.SimpleQueue()
+    for each in interrupts.SIGNALS:
+        if each != getattr(signal, "SIGHUP", None) or signal.getsignal(each) != signal.SIG_IGN:
+            signal.signal(each, lambda *_: ends.put(None))
+    return ends
+
+
+def end_of(ends):
+    """Why it ends, None for a signal; one that another thread was given is seen at the next look."""
+    while True:
+        with contextlib.suppress(queue.Empty):
+            return ends.get(timeout=LOOKS[1])
 
 
 def run(options):
     if options.script == "-":
         raise tool.Fault("SCRIPT is a file that an editor saves, not the standard input")
     tool.read_text(options.script)
-    feed = Feed()
-    follower = Follower(options.script, session.program(options.cobench), feed)
-    probe(follower.words)
-    server = server_of(options, feed, follower)
-    threading.Thread(target=server.serve_forever, daemon=True).start()
-    tool.put(f"{server.address} follows {options.script}; Ctrl-C ends it\n")
-    if options.open:
-        webbrowser.open(server.address)
-    try:
-        follow(follower)
-    finally:
-        server.close()
-        follower.close()
-    tool.put(f"{follower.summary()}\n")
+    ends = ends_by_signals()
+    live = Live(options, ends)
+    live.start()
+    why = end_of(ends)
+    live.close()
+    if why:
+        raise why
+    tool.put(f"{live.follower.summary()}\n")
     return tool.DONE

@@ -1,24 +1,29 @@
 """Says what the bus has to carry at worst, and whether each frame is in time."""
 import os
 
-from .. import findings, load_tables, network, output, tables, tool
+from .. import acceptance, findings, foreign, load_tables, network, output, tables, tool
 from ..evidence import Evidence
 from ..load import Load
 from ..load_findings import LoadFindings
 from ..load_picture import picture
 from ..page import page_of
+from ..safe_text import markup
 from ..wiring import Wiring
 
 SUMMARY = "say what the bus has to carry at worst, and which frames may be late"
 
 AFTER = f"""Runs cobench on SCRIPT, and prints for each identifier how long its frames are and how
 often they can come, its share of the bus, and the longest time that one waits until
-it is there whole: without stuff bits, as cobench simulates, and with the most. Beside
+it is there whole: without stuff bits, as cobench simulates, and with the most. At
+worst each node sends an emergency at once, and one SDO frame of 8 bytes has just
+started. Frames of others are counted by --foreign, and as a recording has them by
+--with: each identifier that SCRIPT doesn't plan, and SDO behind the last start
+command, as far apart on an average as there, and sooner by as much. Beside
 it stand the longest wait in the trace, which may be no longer, and the deadline: for
 what SYNC sends the window (--window, else the next SYNC at which it is sent again),
 for a heartbeat what the shortest consumer time leaves of its period, for others
-their own period. What may be late is an error. SDO and NMT are the boot, which has
-a table of its own.
+their own period. What may be late is an error; emergencies, SDO and frames of others
+have no deadline. The boot has a table of its own.
 
 A frame that is sent at changes, without inhibit time and event time, has no bound,
 and neither has what goes behind it: a warning tells what bounds it. With --assume US
@@ -29,6 +34,7 @@ The waits are those of Davis, Burns, Bril and Lukkien, Real-Time Systems 35 (200
 {network.HELP}
 
   cobtool load --window 2000 network.txt
+  cobtool load --foreign 18FEF100:8:100000 --with machine.log network.txt
   cobtool load --format html network.txt > load.html"""
 
 
@@ -42,6 +48,7 @@ def arguments(parser):
                         help="the microseconds behind SYNC within which its PDOs have to come")
     parser.add_argument("--assume", metavar="US", type=int,
                         help="take frames that nothing bounds to come at most each US")
+    foreign.add_arguments(parser)
     parser.add_argument("--json", action="store_true", help="print all of it as JSON")
     parser.add_argument("--junit", metavar="FILE", help="write what is wrong as JUnit XML too")
     network.add_arguments(parser)
@@ -58,21 +65,24 @@ def check(options):
 def record(load, each):
     """What there is to tell of the frames of an identifier, for programs."""
     plain, stuffed = load.plain, load.stuffed
-    return {"identifier": each.identifier, "frames": each.name, "sender": each.sender, "bytes": each.size,
-            "period_us": each.period, "time_us": plain.duration(each), "time_stuffed_us": stuffed.duration(each),
+    return {"identifier": each.identifier, "extended": each.is_extended, "foreign": each.is_foreign,
+            "frames": each.name,
+            "sender": each.sender, "bytes": each.size, "once": each.is_once,
+            "period_us": None if each.is_once else each.period, "jitter_us": stuffed.streams[each].jitter,
+            "time_us": plain.duration(each), "time_stuffed_us": stuffed.duration(each),
             "share": plain.share(each), "share_stuffed": stuffed.share(each),
             "wait_us": plain.of[each].wait, "wait_stuffed_us": stuffed.of[each].wait,
             "seen_us": load.seen[each].longest,
-            "deadline_us": None if each.period is None else load.deadline(each)[0], "late": load.is_late(each)}
+            "deadline_us": load.deadline(each)[0] if each.has_deadline() else None, "late": load.is_late(each)}
 
 
 def page(heading, load, report, shown):
-    """The page: what is wrong, the tables, and behind the first of them the picture."""
-    wrong = [f'<p class="{each.severity}">{tables.html_text(line)}</p>\n'
+    """The page: what is wrong, the picture, and the tables."""
+    wrong = [f'<p class="{each.severity}">{markup(line)}</p>\n'
              for each in report.open for line in findings.lines_of([each])]
     sections = [tables.html_section(table) for table in shown]
     drawn = f'<section>\n<h2>What each waits for at worst</h2>\n<div class="wide">{picture(load)}</div>\n</section>\n'
-    return page_of(heading, wrong + sections[:1] + [drawn] + sections[1:])
+    return page_of(heading, wrong + [drawn] + sections)
 
 
 def printed(options, load, report):
@@ -93,9 +103,10 @@ def printed(options, load, report):
 def run(options):
     check(options)
     answered = network.asked(options)
-    load = Load(Wiring(answered), answered.lines("trace"), options.window, options.assume)
+    wiring = Wiring(answered)
+    load = Load(wiring, answered.lines("trace"), options.window, options.assume, foreign.traffic_of(options, wiring))
     found = LoadFindings(load, Evidence(answered).origins, options.script).all()
-    report = network.report_of(options, answered, found)
+    report = network.report_of(options, answered, found, acceptance.LOAD)
     if options.junit:
         output.write_file(options.junit, report.as_junit().encode("utf-8", "surrogateescape"))
     if not options.json:

@@ -34,6 +34,10 @@ class Boot:
         if self.place is not None and self.place < len(self.writes):
             self.started = self.started or Spot(time, line)
 
+    def pause(self):
+        """Nothing was recorded for a while: where it is, isn't known."""
+        self.place, self.skipped, self.other, self.started = None, {}, set(), None
+
     def finish(self):
         """The boot is over: what wasn't written is missing."""
         missing = dict(self.skipped)
@@ -151,13 +155,16 @@ class Boot:
             self.node.heartbeat.set_period(period if period == self.node.planned.heartbeat else 0)
             self.node.heartbeat.anchor(time, line)
         elif transfer.key[0] in PDO_OBJECTS:
-            self.node.rest_pdo(transfer.key[0])
+            self.node.rest_pdo(transfer.key[0], time)
+        if transfer.key in self.keys:
+            self.node.judge.startup.activity(time)
 
     def was_read(self, transfer, line):
         """A number was read of the node."""
         expected = self.node.planned.identity.get(transfer.key)
         if not expected:
             return
+        self.judge.startup.activity(transfer.time)
         number = int.from_bytes(transfer.data, "little")
         if number != expected:
             entry = self.judge.plan.entry(self.node.number, transfer.key)

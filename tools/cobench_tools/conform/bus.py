@@ -1,7 +1,10 @@
-"""The frames of a log as they were on the wire: since when one can have waited, and how full the bus was."""
+"""The frames of a log as they were on the wire: since when one can have waited."""
 import bisect
 
-WINDOW = 100_000
+from ..logs.rows import ERROR, FLEXIBLE, OTHER
+from ..logs.intake import Block
+from ..traffic import plain_bits
+from .load import Load
 
 # Frames are measured in the first blocks, and in some of the others; stuff bits make them longer by up to a fifth, and
 # by a sixteenth on the average.
@@ -10,72 +13,26 @@ STUFFED, SHARE = 5, 16
 SEEN, BITS = 4, 8
 ALWAYS = -1 << 62
 
-
-class Load:
-    """How full the bus was in each window of 100 ms.
-
-    bits  of each window from the first one on, without stuff bits; `most` is the same with the most stuff bits
-    """
-
-    def __init__(self, bit):
-        self.bit, self.start, self.bits, self.most = bit, None, [], []
-        self.last = None
-
-    def add(self, rows):
-        """Counts the frames of a block."""
-        if self.start is None:
-            self.start = rows[0][0]
-        times = [time for time, _, _ in rows]
-        place = 0
-        while place < len(rows):
-            window = (times[place] - self.start) // WINDOW
-            end = bisect.bisect_left(times, self.start + (window + 1) * WINDOW, place)
-            self._fill(window, end - place, sum([len(data) for _, _, data in rows[place:end]]) // 2)
-            place = end
-        self.last = times[-1]
-
-    def _fill(self, window, frames, size):
-        missing = window + 1 - len(self.bits)
-        if missing > 0:
-            self.bits += [0] * min(missing, MOST_WINDOWS)
-            self.most += [0] * min(missing, MOST_WINDOWS)
-        window = min(window, len(self.bits) - 1)
-        self.bits[window] += 47 * frames + 8 * size
-        self.most[window] += 55 * frames + 10 * size
-
-    def shares(self, bits):
-        """The share of each window in per cent, the last one but for what the log has of it."""
-        if self.start is None:
-            return []
-        rest = max(self.last - self.start - (len(bits) - 1) * WINDOW, 0)
-        widths = [WINDOW] * (len(bits) - 1) + [rest if len(bits) > 1 else max(rest, 1)]
-        return [100 * each * self.bit / width if width * 4 >= WINDOW or len(bits) == 1 else 0
-                for each, width in zip(bits, widths)]
-
-    def total(self, bits):
-        """The share of all of the log in per cent."""
-        return 100 * sum(bits) * self.bit / max(self.last - self.start, sum(self.bits) * self.bit, 1)
-
-
-MOST_WINDOWS = 1_000_000
+# A frame of 29 bits has as many bits more as so many digits of data have.
+BITS_OF_A_DIGIT, MOST_DIGITS, LONGER = 4, 16, 5
 
 
 class Bus:
-    """The last frames of a log.
+    """The last frames of a log, those among them that aren't of the network.
 
     blocks  the last two blocks, the newest last
     """
 
-    def __init__(self, plan, tolerance):
-        self.plan, self.tolerance, self.blocks, self.load = plan, tolerance, [], Load(plan.bit)
-        self.durations = [plan.duration(digits) for digits in range(17)]
+    def __init__(self, bit, tolerance):
+        self.bit, self.tolerance, self.blocks, self.load = bit, tolerance, [], Load(bit)
+        self.durations = [(plain_bits(0) + BITS_OF_A_DIGIT * digits) * bit for digits in range(MOST_DIGITS + LONGER + 1)]
         self.squeeze, self.tight, self.loose, self.count = 0, 0, 0, 0
 
     def take(self, block):
         """The next block."""
-        self.blocks = self.blocks[-1:] + [block]
-        self.load.add(block.rows)
-        if self.count < ALL_UP_TO or self.count % EACH == 0:
+        self.blocks = self.blocks[-1:] + [with_foreign(block) if block.aside else block]
+        self.load.add(block)
+        if block.rows and (self.count < ALL_UP_TO or self.count % EACH == 0):
             self._measure(block.rows)
         self.count += 1
 
@@ -94,7 +51,7 @@ class Bus:
 
     def slack(self, elapsed):
         """How long the bus may seem to be idle though it is busy, in a time: times are off, and frames have stuff bits."""
-        off = min(2 * self.tolerance.jitter, SEEN * self.squeeze + BITS * self.plan.bit + 2 * self.tolerance.coarse)
+        off = min(2 * self.tolerance.jitter, SEEN * self.squeeze + BITS * self.bit + 2 * self.tolerance.coarse)
         return off + (0 if self.tight > self.loose else elapsed // SHARE)
 
     def waited_since(self, line, until=None, spare=0, lower=1, key=None):
@@ -148,3 +105,18 @@ class Bus:
             yield rows[at]
         if len(self.blocks) > 1 and rows is self.blocks[-1].rows:
             yield from reversed(self.blocks[0].rows)
+
+
+def with_foreign(block):
+    """A block with the frames that aren't of the network among its rows: others waited for them too."""
+    rows = list(zip(block.numbers, block.rows))
+    rows += [(each.line, (each.time, key_among(each), "0" * (2 * each.size + LONGER * each.is_long())))
+             for each in block.aside if each.kind not in (FLEXIBLE, OTHER)]
+    rows.sort(key=lambda each: each[0])
+    return Block([row for _, row in rows], [number for number, _ in rows])
+
+
+def key_among(aside):
+    """A key that stands where a frame wins the bus: one of 29 bits behind that of 11 which it begins with, an error first."""
+    number = 0 if aside.kind == ERROR else aside.identifier >> 18 if aside.is_long() else aside.identifier
+    return f"{number:03X}~"

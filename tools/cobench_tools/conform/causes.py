@@ -6,6 +6,7 @@ from .aligned import Alignment
 MOST = 10_000
 MOST_WAITING = 1_000
 MOST_SPOTS = 200
+MOST_NAMES, MOST_SIGNS = 4, 2
 HEARTBEATS = "heartbeat-late", "heartbeat-missed"
 
 # Where in a log something is: its microsecond and its line.
@@ -23,12 +24,13 @@ class Cause:
     first    where it was first; `last` where last; `count` how often
     notes    further lines of the log, each with words
     spots    the first of the places where it was
+    is_first whether it stands before all others, which may follow from it
     """
 
     def __init__(self, code, subject, about, who, text, spot, notes):
         self.code, self.subject, self.about, self.who, self.text = code, subject, about, who, text
         self.first = self.last = spot
-        self.count, self.notes, self.spots = 1, notes, [spot]
+        self.count, self.notes, self.spots, self.is_first = 1, notes, [spot], False
 
     @property
     def key(self):
@@ -46,7 +48,7 @@ class Causes:
     def __init__(self, plan, times, tolerance):
         self.plan, self.planned, self.waits, self.tolerance = plan, times.of, times.waits, tolerance
         self.alignment = Alignment(plan.landmarks, tolerance)
-        self.found, self.waiting, self.too_many = {}, [], 0
+        self.found, self.waiting, self.too_many, self.folds = {}, [], 0, []
 
     def tell(self, code, subject, about, text, time, line, notes=()):
         """Something isn't as planned."""
@@ -57,6 +59,16 @@ class Causes:
             self._judge(cause)
         elif len(self.waiting) < MOST_WAITING:
             self.waiting.append(cause)
+
+    def tell_absent(self, code, subject, about, text, spot, notes=(), is_first=False):
+        """Something never came, and needn't have been there in the planned run either to be reported."""
+        cause = Cause(code, tuple(map(str, subject)), about, self.plan.who(about), text, spot, tuple(notes))
+        cause.is_first = is_first
+        self._add(cause)
+
+    def fold(self, key, follows):
+        """What follows from the cause of a key isn't reported by itself: it is named there."""
+        self.folds.append((key, follows))
 
     def _judge(self, cause):
         if not self.alignment.has(self.planned[cause.key], cause.first.time):
@@ -74,6 +86,10 @@ class Causes:
         else:
             self.too_many += 1
 
+    def jump(self):
+        """Nothing was recorded for a while: times may have jumped."""
+        self.alignment.may_jump = True
+
     def add_wait(self, key, time, gap):
         """A frame of a key had to wait for the bus, so that it came so long after the one before it."""
 
@@ -82,9 +98,9 @@ class Causes:
         times = [at for at, most in self.waits.get(key, ()) if gap <= most + 2 * self.tolerance.jitter]
         return bool(times) and self.alignment.has(times, time)
 
-    def landmark(self, key, data, time, since):
-        """A boot-up message or a command, by which the log lies on the planned run; `since` is when a node was heard first."""
-        if self.alignment.take(key, data, time, since):
+    def landmark(self, key, data, time, since, power_on=None):
+        """A boot-up message or a command, by which the log lies on the planned run; see Alignment.take."""
+        if self.alignment.take(key, data, time, since, power_on):
             waiting, self.waiting = self.waiting, []
             for cause in waiting:
                 self._judge(cause)
@@ -94,7 +110,21 @@ class Causes:
         for cause in self.waiting if self.alignment.is_lost() else ():
             self._add(cause)
         self.waiting = []
-        return sorted(self.found.values(), key=lambda cause: (cause.first.line, cause.key))
+        for key, follows in self.folds:
+            self._fold(self.found.get(key), follows)
+        self.folds = []
+        return sorted(self.found.values(), key=lambda cause: (not cause.is_first, cause.first.line, cause.key))
+
+    def _fold(self, root, follows):
+        """Takes away what follows from a cause, and has it say so."""
+        mine = [cause for cause in self.found.values() if root and cause is not root and follows(cause, root)]
+        for cause in mine:
+            del self.found[cause.key]
+        if mine:
+            first = min(mine, key=lambda cause: cause.first)
+            names = ", ".join(sorted({" ".join(cause.key) for cause in mine})[:MOST_NAMES])
+            more = f" and {len(mine) - MOST_NAMES} more" if len(mine) > MOST_NAMES else ""
+            root.notes = root.notes[:MOST_SIGNS] + ((first.first.line, f"from here on this brings about {names}{more}"),)
 
 
 class Times:
@@ -107,7 +137,13 @@ class Times:
     alignment = None
 
     def __init__(self):
-        self.of, self.waits = {}, {}
+        self.of, self.waits, self.found = {}, {}, {}
+
+    def fold(self, key, follows):
+        """Each is kept by itself."""
+
+    def jump(self):
+        """Its times don't."""
 
     def tell(self, code, subject, about, text, time, line, notes=()):
         """Something isn't as the rules have it; a heartbeat that is late is missed later."""
@@ -122,5 +158,5 @@ class Times:
         """Nothing is planned before."""
         return False
 
-    def landmark(self, key, data, time, since):
+    def landmark(self, key, data, time, since, power_on=None):
         """The planned run lies on itself."""

@@ -1,7 +1,7 @@
 """Which state of a script is the plan of a log: its end, or its last `trace` where edits stand behind that."""
 from .. import session, tool
 from ..evidence import Evidence
-from ..logs.source import Block
+from ..logs.intake import Block
 from ..replies import QUERIES
 from .causes import Causes
 from .judge import Judge

@@ -5,7 +5,7 @@ from ..logs.rows import key_of
 from .causes import HEARTBEATS
 from .plan import milliseconds
 
-NEVER, LOWER = 1 << 62, 2
+NEVER, LOWER, QUICK = 1 << 62, 2, 16
 LATE, MISSED = HEARTBEATS
 STATE = 0x7F       # above it node guarding has its toggle bit
 STATE_BYTES = {4: "04", 5: "05", 127: "7F"}
@@ -20,12 +20,15 @@ class Heartbeat:
 
     period    the microseconds from one to the next, 0 for none, None where it isn't known
     last      the time of the last one, or of what it counts from, None before; `line` its line
+    is_beat   whether that was a heartbeat, and not what it counts from; `before` is the time of the one before it
+    was_seen  whether one came at all; `rested` is when it was to begin anew
     expected  the digits of the state that it has to tell, "" where that isn't known
     """
 
     def __init__(self, judge, node, period):
         self.judge, self.node, self.key = judge, node, key_of(BOOT_UP + node.number)
         self.last, self.line, self.expected, self.high = None, 0, "", NEVER
+        self.is_beat, self.before, self.low, self.was_seen, self.rested = False, None, 0, False, 0
         self.spare = 2 * judge.plan.duration(16)
         self.watched = judge.plan.consumers.get(node.number, [])
         self.set_period(period)
@@ -34,6 +37,7 @@ class Heartbeat:
         """Takes the period by which they come from now on."""
         self.period = period
         self.high = period + self.judge.tolerance.of(period) if period else NEVER
+        self.low = period // 2 if period else 0
 
     def tolerate(self):
         """Works out what is allowed."""
@@ -41,12 +45,12 @@ class Heartbeat:
 
     def anchor(self, time, line):
         """The period begins anew."""
-        self.last, self.line = time, line
+        self.last, self.line, self.is_beat, self.before = time, line, False, None
 
     def take(self, time, data, number):
         """A heartbeat or a boot-up message came."""
-        if data == self.expected and self.last is not None and time - self.last <= self.high:
-            self.last, self.line = time, number
+        if data == self.expected and self.last is not None and self.low < time - self.last <= self.high:
+            self.before, self.last, self.line, self.is_beat = self.last, time, number, True
         else:
             self._look(time, data, number)
 
@@ -56,12 +60,25 @@ class Heartbeat:
             return
         if self.last is not None and time - self.last > self.high:
             self._late(time, number)
-        self.last, self.line = time, number
+        elif self.last is not None and time - self.last <= self.low:
+            self._early(time, number)
+        self.before, self.last, self.line, self.is_beat, self.was_seen = self.last, time, number, True, True
         self.node.hear(time, number)
         if len(data) == 2:
             self.node.tells_state(int(data, 16) & STATE, time, number)
         else:
             self.node.tell("state", [self.node.number], f"its heartbeat has {len(data) // 2} bytes", time, number)
+
+    def _early(self, time, number):
+        """Two in half a period: one device sends none so soon, unless the first one had to wait, its state changed, or all come so soon."""
+        is_quick = self.before is not None and time - self.before < self.period - self.period // QUICK
+        if not self.is_beat or is_quick or self.node.has_changed(self.last):
+            return
+        due = self.last - self.low
+        since = self.judge.bus.waited_since(self.line, due, self.spare, LOWER)
+        if since is None or since > due:
+            self.node.is_doubled(f"its heartbeat comes {milliseconds(time - self.last)} after the last one, and 1017h has "
+                                 f"{milliseconds(self.period)}", time, number)
 
     def _late(self, time, number):
         """One that is late: because the bus was busy, or because it is."""
@@ -77,14 +94,15 @@ class Heartbeat:
 
     def _tell(self, gap, time, number, is_over=False):
         """Tells of a heartbeat that is so long in coming, and who misses it."""
-        code, who = self._who_misses(gap)
+        code, who = self.who_misses(gap)
         came = f"no heartbeat came for {milliseconds(gap)}, to the end"
         if not is_over:
             came = f"its heartbeat comes {milliseconds(gap)} after the last one"
         text = f"{came}; 1017h has {milliseconds(self.period)}{who}"
-        self.node.tell(code, [self.node.number], text, time, number, [(self.line, "the last one before")])
+        self.node.tell(code, [self.node.number], text, time, number,
+                       [(self.line, "the last one before" if self.is_beat else "its time counts from here")])
 
-    def _who_misses(self, gap):
+    def who_misses(self, gap):
         """The code of a heartbeat that is so long in coming, and in words who misses it, or would have been the first."""
         name, allowed = self.judge.plan.name, self.judge.tolerance.of
         missing = [(limit, node) for limit, node in self.watched if gap > limit + allowed(limit)]
@@ -96,9 +114,15 @@ class Heartbeat:
             return LATE, f"; {name(node)} misses it after {milliseconds(limit)}: {milliseconds(max(limit - gap, 0))} were left"
         return LATE, ""
 
+    def comes_by_itself(self):
+        """Whether it has a period."""
+        return self.high < NEVER
+
     def is_overdue(self, time):
         """Whether one should have come by now."""
         return self.last is not None and time - self.last > self.high
+
+    is_late = is_overdue
 
     def due(self):
         """When the next one has to come."""
@@ -108,9 +132,9 @@ class Heartbeat:
         """Whether it says when it is to come."""
         return self.last is not None and self.high < NEVER
 
-    def forget(self):
-        """What comes next is the first one."""
-        self.last = None
+    def forget(self, time=0):
+        """What comes next is the first one; it has to come from a time on."""
+        self.last, self.before, self.is_beat, self.rested = None, None, False, time
 
     def finish(self, end):
         """The log is over."""
@@ -121,4 +145,4 @@ class Heartbeat:
 
     def tell_over(self, end):
         """None came up to the end."""
-        self._tell(end - self.last, self.last + self.high, self.line, is_over=True)
+        self._tell(end - self.last, *self.judge.spot(self.last + self.high), is_over=True)

@@ -2,44 +2,24 @@
 from ..logs.rows import key_of
 from ..plan import LEAST_IDENTIFIER
 from ..wiring import is_restricted
-from . import emergencies
+from . import emergencies, follow
+from .absence import Absences
+from .besides import Besides
 from .bus import Bus
 from .expected import Expected
-from .heartbeat import Heartbeat
+from .gaps import Gaps
+from .manager import Manager
 from .node import Node
-from .pdo import Shared, Unplanned, follower
+from .pdo import Shared
+from .startup import Places, Startup
+from .strays import Strays
 from .sync import Sync
+from .synced_pdo import follower
+from .unfinished import Unfinished
 
 RESTRICTED = [is_restricted(identifier) for identifier in range(0x800)]
 HEARTBEATS, EMERGENCIES, ANSWERS, REQUESTS = 0x700, 0x080, 0x580, 0x600
 ALL_NODES, COMMUNICATION = 0, 0x81
-
-# Within these microseconds the nodes of a machine are taken to be switched on together.
-POWER_ON, SAME = 5_000, 50
-
-
-class Manager:
-    """The manager as the follower of its heartbeats sees it."""
-
-    def __init__(self, judge):
-        self.judge, self.number, self.about = judge, judge.plan.manager, ("manager",)
-        self.heartbeat = Heartbeat(judge, self, judge.plan.manager_heartbeat)
-
-    def tell(self, code, subject, text, time, line, notes=()):
-        self.judge.causes.tell(code, subject, self.about, text, time, line, notes)
-
-    def boot_up(self, time, line):
-        """It was switched on; its heartbeat has a beat of its own, which its period doesn't begin with."""
-        self.heartbeat.forget()
-
-    def hear(self, time, line):
-        """It was heard."""
-
-    def tells_state(self, state, time, line):
-        """Its state isn't judged."""
-
-    def was_silent(self, stream, time, line):
-        return False
 
 
 def let_pass(time, data, number):
@@ -65,6 +45,8 @@ class Judge:
     nodes    the planned nodes, by number
     is_of_plan  whether it is the planned run that is judged
     begin, end, last_line  when the log begins and ends, and its last line
+    startup  how far the machine is with its start
+    absences what has to come by itself
     """
 
     def __init__(self, plan, tolerance, causes, window=None, is_exact=False):
@@ -72,11 +54,14 @@ class Judge:
         self.is_of_plan = causes.alignment is None
         self.begin = self.end = None
         self.last_line, self.active_since, self.is_power_on = 0, None, None
-        self.bus, self.sync = Bus(plan, tolerance), Sync(self)
+        self.bus, self.sync = Bus(plan.bit if self.is_of_plan else plan.bus_bit, tolerance), Sync(self)
+        self.startup, self.places = Startup(plan), Places()
         self.nodes = {number: Node(self, planned) for number, planned in sorted(plan.nodes.items())}
-        self.manager, self.unplanned_pdos = Manager(self), {}
-        self.handlers = Handlers(self)
+        self.manager, self.strays = Manager(self), Strays(self)
+        self.handlers, self.besides = Handlers(self), Besides(self)
         self._connect()
+        self.bus.load.planned = frozenset(self.handlers)
+        self.gaps, self.absences = Gaps(self), Absences(self)
 
     def _connect(self):
         """Gives each key its follower."""
@@ -100,14 +85,52 @@ class Judge:
 
     def take(self, block):
         """Takes the frames of a block."""
+        self.besides.take(block.aside)
+        if not block.rows:
+            self.bus.take(block)
+            return
         if self.begin is None:
             self.begin = block.rows[0][0]
+            self.startup.go_on(self.begin)
         self.bus.take(block)
+        self.places.take(block)
         self.last_line = block.numbers[-1]
         handlers = self.handlers
-        for number, (time, key, data) in zip(block.numbers, block.rows):
-            handlers[key](time, data, number)
+        for part in self.gaps.parts(block):
+            for number, (time, key, data) in zip(part.numbers, part.rows):
+                handlers[key](time, data, number)
         self.end = block.rows[-1][0]
+        self.startup.go_on(self.end)
+        self.sync.keep()
+
+    def begin_anew(self, time):
+        """What was recorded before a time says nothing of what comes: something is left out, or the clock jumped."""
+        self.causes.jump()
+        self.sync.pause(time)
+        self.manager.heartbeat.forget(time)
+        for node in self.nodes.values():
+            node.pause(time)
+
+    def spot(self, time):
+        """A time, and the line of the first frame from it on."""
+        return self.places.spot(time, self.bus.blocks)
+
+    def up(self):
+        """From when all that is planned has to be there, after how long at the soonest; where that isn't known, why."""
+        missing = sum(node.first is None for node in self.nodes.values())
+        since, after = self.startup.since(missing, missing == len(self.nodes))
+        return since, after, "" if since is not None else "the start of the machine isn't over"
+
+    def has_all_boots(self):
+        """Whether the log has the start of the machine: it begins with a boot-up message, and so does each node."""
+        heard = [node for node in self.nodes.values() if node.first is not None]
+        return bool(self.is_power_on) and all(node.first_boot and node.first_boot.time <= node.first.time for node in heard)
+
+    def may_not_be_started(self):
+        """Whether a mandatory node isn't there, and nothing shows that the network was started without it."""
+        project, nodes = self.plan.project, self.nodes.values()
+        is_away = any(node.first is None for node in nodes if node.number in project.mandatory)
+        return project.version >= 2 and is_away and not any(node.was_operational() for node in nodes)
 
     def tolerate(self):
         """Times may be off by more than before: what each follower allows is worked out anew."""
@@ -119,11 +142,15 @@ class Judge:
 
     def finish(self):
         """The log is over."""
-        self.sync.finish(self.end, self.last_line)
+        self.sync.finish(self.end)
         for node in self.nodes.values():
             node.finish(self.end)
         self.manager.heartbeat.finish(self.end)
-        self._never_boot()
+        Unfinished(self).finish()
+        if self.causes.alignment:
+            self.absences.finish()
+        follow.fold(self)
+        self.strays.finish()
 
     # Commands and landmarks.
 
@@ -140,7 +167,9 @@ class Judge:
         """A boot-up message or a command came."""
         if self.is_power_on is None and key != "000#":
             self.is_power_on = self.active_since is None
-        self.causes.landmark(key, data, time, time if self.active_since is None else self.active_since)
+        self.startup.landmark(key, data, time)
+        self.causes.landmark(key, data, time, time if self.active_since is None else self.active_since,
+                             self.begin if self.is_power_on else None)
 
     def hear(self, time):
         """A node was heard for the first time."""
@@ -151,25 +180,6 @@ class Judge:
         """The first SYNC came."""
         if self.causes.alignment:
             self.causes.alignment.take_sync(time, self.plan.first_sync)
-
-    def _never_boot(self):
-        """Tells of the nodes that never boot though the log begins with power-on."""
-        for number, node in self.nodes.items():
-            planned = self.plan.landmarks.get((key_of(HEARTBEATS + number), "00"))
-            if planned and self.is_power_on and node.first is None and self._goes_past(planned[0]):
-                node.tell("never-boots", [number], "it never boots: nothing of it is there", self.begin, 1)
-            elif planned and node.first is not None and node.first_boot is None and self._begins_with_the_run():
-                node.tell("never-boots", [number], "it is heard, and no boot-up message of it is there", *node.first)
-
-    def _begins_with_the_run(self):
-        """Whether the first frame of the log is that of the planned run."""
-        alignment = self.causes.alignment
-        return bool(alignment) and bool(alignment.offsets) and abs(self.begin - alignment.offset - self.plan.frames[0][0]) <= SAME
-
-    def _goes_past(self, planned):
-        """Whether the log has begun before a time of the planned run and ends behind it, as far as that is known."""
-        alignment = self.causes.alignment
-        return not alignment or alignment.offset is None or self.begin - POWER_ON <= planned + alignment.offset <= self.end
 
     # Emergencies.
 
@@ -192,8 +202,7 @@ class Judge:
         if node and node != self.plan.manager and (service in (HEARTBEATS, ANSWERS) or service == EMERGENCIES and identifier > EMERGENCIES):
             return self._stranger(node)
         if identifier >= LEAST_IDENTIFIER and not RESTRICTED[identifier]:
-            found = self.unplanned_pdos[identifier] = Unplanned(self, key)
-            return found.take
+            return self.strays.taker(identifier)
         return let_pass
 
     def _stranger(self, node):
@@ -201,9 +210,3 @@ class Judge:
             self.causes.tell("unplanned-node", [node], ("node", node), "no node of the plan has this number; "
                              + ("it boots" if data == "00" else "it is heard"), time, number)
         return take
-
-    def stands_for(self, pdo, start, end):
-        """Whether frames with an unplanned identifier may be those of a TPDO that stay away from a time to another."""
-        start -= self.plan.sync + 4 * self.tolerance.jitter
-        return any(start <= time <= end and digits == pdo.digits
-                   for each in self.unplanned_pdos.values() for time, digits in each.recent)

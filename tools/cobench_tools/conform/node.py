@@ -6,18 +6,19 @@ from .boot import Boot
 from .causes import Spot
 from .heartbeat import STATE_BYTES, Heartbeat, state_name
 from .plan import milliseconds
+from .presence import OPERATIONAL, Presence
 from .sdo import Talk
+from .twins import ENOUGH, SOON, Twins
 
-OPERATIONAL, STOPPED, PRE_OPERATIONAL = 5, 4, 127
+STOPPED, PRE_OPERATIONAL = 4, 127
 BY_SERVICE = {1: OPERATIONAL, 2: STOPPED, 128: PRE_OPERATIONAL}
 RESETS = 129, 130
 
 # What 1029h:01 says that a node does at a communication error; 1 is no change.
 BY_ERROR = {0: PRE_OPERATIONAL, 2: STOPPED}
-LEAST_SILENT = 2
 
 
-class Node:
+class Node(Presence):
     """A planned node as it was recorded.
 
     state      what it was told to be in, None where that isn't known; `since` is when it was told
@@ -25,6 +26,11 @@ class Node:
     possible   the states of which it has one after a communication error, None where that isn't known
     first_boot   the time and line of its first boot-up message
     first_state  the time and the digits of its first heartbeat or boot-up message
+    last_boot    the time and line of its last boot-up message
+    reset_at     the time and line of the command that reset it, None where it has booted since
+    back         since when it is there again after nothing was recorded, None for no such time
+    is_started   whether a command started it since it booted
+    may_have_booted  whether it may have been reset unseen
     heard      the time and line at which something else than its cyclic frames was heard last, None for nothing so far
     streams    its heartbeat and its TPDOs, each with when it came last
     """
@@ -34,11 +40,12 @@ class Node:
         self.about = "node", self.number
         self.state, self.since, self.is_sure, self.possible = None, None, False, None
         self.heard, self.first, self.first_state, self.is_reset = None, None, None, False
-        self.first_boot = None
+        self.first_boot = self.last_boot = self.reset_at = self.back = None
+        self.may_have_booted = self.was_tripped = self.is_started = False
         self.heartbeat = Heartbeat(judge, self, planned.heartbeat)
         self.streams, self.pdos = [self.heartbeat], {}
         self.boot = Boot(judge, self)
-        self.talk = Talk(self.boot, self)
+        self.talk, self.twins = Talk(self.boot, self), Twins(self)
 
     def tell(self, code, subject, text, time, line, notes=(), about=None):
         """Something of it isn't as planned."""
@@ -56,11 +63,19 @@ class Node:
         self.streams.append(pdo)
         self.pdos[pdo.tpdo.number] = pdo
 
-    def rest_pdo(self, index):
+    def rest_pdo(self, index, time):
         """An object of a PDO was written: what comes next is the first one."""
         direction, number = pdo_of(index)
         if direction == TPDO and number in self.pdos:
-            self.pdos[number].forget()
+            self.pdos[number].forget(time)
+
+    def has_changed(self, time):
+        """Whether its state has changed since a time."""
+        return self.since is not None and self.since > time
+
+    def is_doubled(self, what, time, line, weight=1):
+        """There is a sign that two devices have its number."""
+        self.twins.sign(what, time, line, weight)
 
     # States.
 
@@ -73,14 +88,16 @@ class Node:
         self.judge.landmark(key_of(BOOT_UP + self.number), "00", time)
         self.first_state = self.first_state or (time, "00")
         self.first_boot = self.first_boot or Spot(time, line)
-        period, is_expected = self.planned.at_first, self.first is None or self.is_reset
+        period, is_expected = self.planned.at_first, self.first is None or self.is_reset or self.may_have_booted
         if is_expected:
             self.set_state(PRE_OPERATIONAL, time, True)
         else:
             self._boots_again(time, line)
             period = period if period == self.planned.heartbeat else 0
-        self.is_reset = False
+        self.is_reset, self.may_have_booted, self.reset_at, self.is_started = False, False, None, False
         self.hear(time, line)
+        self.last_boot = Spot(time, line)
+        self.judge.startup.activity(time)
         self.boot.begin(is_expected)
         self.talk.forget()
         self.heartbeat.set_period(period)
@@ -93,6 +110,9 @@ class Node:
         said = f", {milliseconds(silent)} after it was heard last" if any(each.is_overdue(time) for each in self.streams) else ""
         if self.judge.is_of_plan:
             self._stays_away(time)
+        if self.last_boot and time - self.last_boot.time < SOON:
+            self.is_doubled(f"it boots {milliseconds(time - self.last_boot.time)} after it has booted, and no command reset it", time, line,
+                            ENOUGH)
         self.set_state(None, time, False)
         self.tell("boots-again", [self.number], f"it boots again, and no command reset it{said}", time, line)
 
@@ -106,8 +126,9 @@ class Node:
 
     def command(self, service, time, line):
         """It was told to be in a state, or to reset."""
+        self.is_started |= service == 1
         if service in RESETS:
-            self.is_reset = True
+            self.is_reset, self.reset_at = True, Spot(time, line)
             self.set_state(None, time, False)
             self._rest()
             for stream in self.streams:
@@ -135,12 +156,14 @@ class Node:
         """A communication error may have changed its state, as 1029h has it."""
         possible = {self.state, BY_ERROR.get(self.planned.on_error, self.state)}
         self.set_state(None, time, False)
+        self.was_tripped = True
         self.possible = None if None in possible else possible
         self._rest()
 
     def tells_state(self, state, time, line):
         """A heartbeat tells its state."""
         self.first_state = self.first_state or (time, f"{state:02X}")
+        self.may_have_booted = False
         if state == self.state:
             return
         waited = self.since is not None and self._may_have_waited(time, line)
@@ -150,9 +173,17 @@ class Node:
         elif self.state is None:
             if not waited:
                 self.set_state(state, time, False)
+        elif state == OPERATIONAL and self._was_started_unseen(time):
+            self.set_state(state, time, False)
         elif not waited:
             self.tell("state", [self.number], f"it is {state_name(state)}, and "
                       f"{'was told to be' if self.is_sure else 'was'} {state_name(self.state)}", time, line)
+
+    def _was_started_unseen(self, time):
+        """Whether its state was known of one heartbeat alone, the first of the log, which may have waited before that began."""
+        period = self.heartbeat.period or 0
+        return (not self.is_sure and self.state == PRE_OPERATIONAL and self.first_state is not None
+                and self.since == self.first_state[0] <= self.judge.begin + period and time - self.since < 2 * period)
 
     def _may_have_waited(self, time, line):
         """Whether what comes now can have begun to wait before its state changed."""
@@ -164,55 +195,7 @@ class Node:
 
     def sends(self, pdo, time, line):
         """A PDO came of it that wasn't counted before."""
+        self.may_have_booted = False
         if self.is_sure and self.state in (STOPPED, PRE_OPERATIONAL) and not self._may_have_waited(time, line):
             self.tell("state", [self.number], f"it sends {pdo}, and was told to be {state_name(self.state)}", time, line)
             self.is_sure = False
-
-    # Silence.
-
-    def last_heard(self):
-        """When and in which line it was heard last."""
-        spots = [Spot(stream.last, stream.line) for stream in self.streams if stream.last is not None]
-        return max(spots + ([self.heard] if self.heard else []), default=None)
-
-    def was_silent(self, stream, time, line):
-        """Whether others of its frames stayed away as this one did; then that is told, and all begins anew."""
-        if not self._is_silent(time, line, stream):
-            return False
-        last = self.last_heard()
-        self.tell("silent", [self.number], f"nothing of it came for {milliseconds(time - last.time)}", last.time, last.line,
-                  [(line, "here it is heard again")])
-        for each in self.streams:
-            if each is not stream:
-                each.forget()
-        return True
-
-    def _is_silent(self, time, line, stream=None):
-        """Whether several of its frames are overdue in a line, and none of them was before it was heard last."""
-        overdue = [each for each in self.streams if each.is_judged()
-                   and (each is stream or each.is_overdue(time) and not self._waits(each, line))]
-        if len(overdue) < LEAST_SILENT:
-            return False
-        last = self.last_heard()
-        return all(each.due() + self._slack >= last.time or self._waits(each, last.line) for each in overdue)
-
-    @property
-    def _slack(self):
-        return 2 * self.judge.tolerance.jitter
-
-    def _waits(self, stream, line):
-        """Whether a frame that is due may be waiting for the bus in a line."""
-        due = stream.due() + self._slack
-        since = self.judge.bus.waited_since(line, due, key=stream.key)
-        return since is not None and since <= due
-
-    def finish(self, end):
-        """The log is over."""
-        self.boot.finish()
-        if self._is_silent(end, self.judge.last_line):
-            last = self.last_heard()
-            self.tell("silent", [self.number], "nothing of it comes any more", last.time, last.line)
-            if not self.judge.is_of_plan:
-                return
-        for stream in self.streams:
-            stream.finish(end)

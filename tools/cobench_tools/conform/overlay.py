@@ -2,10 +2,10 @@
 
 It is what picture.py draws, twice: times are those of the planned run, shifted so that the first of all is 0.
 """
-from .. import meaning, tool
-from ..picture import BY_BYTE, OTHERS, STATES, Drawing, Sorts, event_flag, events_of, moments_of, states_of
-from ..trace import Frame
-from ..wiring import COMMUNICATION, TPDO, pdo_numbers
+from .. import meaning, recording, safe_text
+from ..picture import OTHERS, STATES, Drawing, Sorts, event_flag, events_of, moments_of, states_of
+from .compared import mark_others
+from .heard import Heard
 
 MOST_FRAMES = 1_000_000
 PLANNED = 1_000     # what the keys of planned lanes have above those of recorded ones
@@ -15,36 +15,28 @@ class Recorded:
     """Draws the frames of a log as it is read, up to the first million.
 
     windows  a span for each block, with times of the log
+    heard    when each node was heard, and which states that tells; see heard.py
     left     how many frames aren't drawn
     """
 
-    def __init__(self, plan):
-        self.plan, self.network, self.sorts = plan, meaning.Network(plan.project, with_names=True), Sorts()
-        self._take_plan()
+    def __init__(self, plan, tolerance):
+        self.plan, self.network, self.sorts = plan, recording.network_of(plan, with_names=True), Sorts()
         self.drawing, self.windows, self.count, self.left, self.begin = Drawing(self.network, self.sorts), [], 0, 0, None
-
-    def _take_plan(self):
-        """What PDOs are, as they are planned: a log may begin behind the boots."""
-        for number, node in self.plan.wiring.nodes.items():
-            for tpdo in pdo_numbers(node.device, TPDO):
-                for index in (COMMUNICATION[TPDO] + tpdo, COMMUNICATION[TPDO] + 0x200 + tpdo):
-                    for sub in sorted(sub for at, sub in node.device.entries if at == index):
-                        value = node.number_at(index, sub, node.device.entries[index, sub].kind)
-                        if value is not None:
-                            self.network.write(number, (index, sub), value)
+        self.heard = Heard(plan, tolerance)
 
     def take(self, block):
         """Takes a block of the log."""
         rows = block.rows[:max(MOST_FRAMES - self.count, 0)]
-        self.left += len(block.rows) - len(rows)
-        self.count += len(rows)
-        if not rows:
+        cut = len(block.rows) - len(rows)
+        lines = list(recording.lines_of_block(block._replace(rows=rows, aside=() if cut else block.aside), 0))
+        self.left, self.count = self.left + cut, self.count + len(lines)
+        if not lines:
             return
         if self.begin is None:
-            self.begin = rows[0][0]
-        frames = (Frame(time, int(key[:3], 16), bytes.fromhex(data)) for time, key, data in rows)
-        self.windows.append(self.drawing.window(rows[0][0], frames))
-        self.windows[-1].end = rows[-1][0]
+            self.begin = lines[0].time
+        self.heard.take(rows)
+        self.windows.append(self.drawing.window(lines[0].time, lines))
+        self.windows[-1].end = lines[-1].time
 
 
 class Overlay:
@@ -95,33 +87,24 @@ class Overlay:
 
     def flags(self):
         """A flag for each place at which a cause was told."""
-        return [[spot.time - self.offset, self.lane_of(cause), "deviation", cause.code, f"{tool.readable(text)}, line {spot.line}"]
+        return [[spot.time - self.offset, self.lane_of(cause), "deviation", cause.code, f"{safe_text.readable(text)}, line {spot.line}"]
                 for cause, text in self.findings for spot in cause.spots]
 
     def states(self):
         """The states of recorded and planned lanes."""
-        nodes = self.nodes()
-        moments = [(time - self.offset, node, state) for window in self.recorded.windows for time, node, state in window.changes]
-        found = {node: self.from_first(node, changes) for node, changes in states_of(nodes, moments).items()}
+        last = self.recorded.windows[-1].end
+        found = {node: [[max(time - self.offset, 0), STATES.index(state)] for time, state in self.recorded.heard.states(node, last)]
+                 for node in self.nodes()}
         planned = states_of(list(self.plan.project.nodes), moments_of(events_of(self.plan.project, self.end), [self.window]))
         found.update((PLANNED + node, [[time + self.shift if time else 0, state] for time, state in changes])
                      for node, changes in planned.items())
         return found
 
-    def from_first(self, node, changes):
-        """A node is off until its boot-up message, and as a heartbeat tells it where that is what comes first."""
-        first = self.first_told(node)
-        if first is None:
-            return changes
-        time, digits = first
-        if digits == "00":
-            return [[0, STATES.index("off")], [time - self.offset, STATES.index("pre-operational")]] + changes[1:]
-        return [[0, STATES.index(BY_BYTE.get(int(digits, 16), "pre-operational"))]] + [each for each in changes[1:] if each[0] > time - self.offset]
-
-    def first_told(self, node):
-        """The first heartbeat or boot-up message of a node: its time and its digits."""
-        follower = self.judge.nodes.get(node)
-        return follower.first_state if follower else None
+    def expected(self, flags):
+        """The flags of emergencies and boots that fail, which are no deviations: what isn't planned of them has a flag of its own."""
+        deviating = {(spot.time - self.offset, self.lane_of(cause)) for cause, _ in self.findings for spot in cause.spots}
+        return [[time, lane, "expected" if kind in ("emergency", "failed") else kind, *words] for time, lane, kind, *words in flags
+                if kind != "emergency" or (time, lane) not in deviating]
 
     def content(self, title):
         rows = [list(row) for row in self.recorded.sorts.rows]
@@ -133,9 +116,13 @@ class Overlay:
         planned["flags"] = [[time, lane + PLANNED, *rest] for time, lane, *rest in planned["flags"]]
         scenario = [event_flag(self.drawing.network, *each) for each in events_of(self.plan.project, self.end)]
         events = [[time + self.shift, lane + PLANNED, *rest] for time, lane, *rest in scenario]
+        windows = list(self.moved(self.recorded.windows, -self.offset)) + [planned]
+        for window in windows:
+            window["flags"] = self.expected(window["flags"])
+        mark_others(windows, rows, PLANNED)
         return {
-            "title": tool.readable(title), "script": True, "end": self.end, "bit": self.plan.bit, "kinds": meaning.KINDS,
+            "title": safe_text.readable(title), "script": True, "end": self.end, "bit": self.plan.bit, "kinds": meaning.KINDS,
             "stateNames": STATES, "lanes": self.lanes(), "states": self.states(), "sorts": rows,
-            "windows": list(self.moved(self.recorded.windows, -self.offset)) + [planned], "events": events + self.flags(),
+            "windows": windows, "events": events + self.flags(),
             "left": self.recorded.left,
         }

@@ -15,21 +15,30 @@ class Pdo:
     last, line  the time and line of its last frame, None before the first one
     data        the digits of its last frame, if they were as they have to be
     digits      how many digits its frames have
+    was_seen    whether one came at all, the first in `first_line`; `rested` is when it was to begin anew
     """
+
+    needs_sync, step = False, 0
 
     def __init__(self, judge, node, tpdo):
         self.judge, self.node, self.tpdo = judge, node, tpdo
         self.last, self.line, self.data, self.digits = None, 0, None, 2 * tpdo.size
         self.limits, self.about = judge.plan.limits(tpdo), judge.plan.about(tpdo)
         self.name, self.key = judge.plan.pdo_name(tpdo), key_of(tpdo.identifier)
+        self.was_seen, self.first_line, self.rested = False, None, 0
 
     @property
     def subject(self):
         return [f"{self.tpdo.identifier:03X}"]
 
     def tell(self, code, text, time, line, notes=()):
+        self.node.tell(code, self.subject, f"{self.title}{text}", time, line, notes, about=self.about)
+
+    @property
+    def title(self):
+        """How a finding of it begins."""
         who = "" if self.about[0] == "message" else f"TPDO {self.tpdo.number} "
-        self.node.tell(code, self.subject, f"{who}{self.tpdo.identifier:03X}h: {text}", time, line, notes, about=self.about)
+        return f"{who}{self.tpdo.identifier:03X}h: "
 
     def take(self, time, data, number):
         """A frame of it came."""
@@ -43,6 +52,8 @@ class Pdo:
         """A frame came with which its count begins."""
         if self.node.first is None:
             self.node.hear(time, number)
+        if not self.was_seen:
+            self.was_seen, self.first_line = True, number
         self.node.sends(self.name, time, number)
 
     def changed(self, data, time, number):
@@ -75,12 +86,17 @@ class Pdo:
     def tolerate(self):
         """Works out what is allowed."""
 
-    def forget(self):
-        """What comes next is the first one."""
-        self.last = None
+    def forget(self, time=0):
+        """What comes next is the first one; it has to come from a time on."""
+        self.last, self.rested = None, time
 
     def start(self, time, line):
         """Its node was started."""
+
+    def tell_absent(self, code, text, spot):
+        """It never came."""
+        if not self.judge.strays.stands_for(self, spot.time, self.judge.end):
+            self.judge.causes.tell_absent(code, self.subject, self.about, f"{self.title}{text}", spot)
 
     def due(self):
         """When the next one has to come."""
@@ -94,142 +110,19 @@ class Pdo:
         """Whether one should have come by now."""
         return False
 
+    def is_late(self, time):
+        """The same, for gaps."""
+        return self.is_overdue(time)
+
+    def comes_by_itself(self):
+        """Whether it has a period of its own."""
+        return False
+
     def finish(self, end):
         """The log is over."""
 
     def tell_over(self, end):
         """None came up to the end, though one should have come."""
-
-
-class SyncedPdo(Pdo):
-    """A TPDO that SYNC sends; `window` are the microseconds within which it has to come."""
-
-    def __init__(self, judge, node, tpdo):
-        super().__init__(judge, node, tpdo)
-        self.sync, self.window = judge.sync, judge.window or judge.plan.nodes[tpdo.node].window or NEVER
-
-    def judge_window(self, time, number):
-        """A frame that comes behind the window, unless it is of the SYNC that should have come by now."""
-        late = time - self.sync.last
-        if not self.sync.is_overdue(time) and late > self.window + self.judge.tolerance.of(self.window):
-            self.tell("pdo-window", f"it comes {milliseconds(late)} after SYNC, and the window is {milliseconds(self.window)}",
-                      time, number, [(self.sync.line, "the SYNC")])
-
-
-class SyncPdo(SyncedPdo):
-    """A TPDO of type 1 to 240.
-
-    index  the number of the SYNC after which its last frame came, None where its count isn't known
-    """
-
-    def __init__(self, judge, node, tpdo):
-        super().__init__(judge, node, tpdo)
-        self.step, self.index, self.era = tpdo.kind, None, 0
-        self.has_start = bool(tpdo.start) and judge.plan.nodes[tpdo.node].counts_syncs
-
-    def take(self, time, data, number):
-        """A frame of it came."""
-        if data != self.data:
-            if len(data) == self.digits and not self.limits:
-                self.data = data
-            else:
-                self.changed(data, time, number)
-        sync = self.sync
-        if self.index is None or sync.index - self.index != self.step:
-            self._look(time, number)
-        else:
-            self.index = sync.index
-        if sync.last is not None and time - sync.last > self.window:
-            self.judge_window(time, number)
-        self.last, self.line = time, number
-
-    def _look(self, time, number):
-        """A frame that doesn't come with the SYNC with which it has to."""
-        sync, before = self.sync, self.index
-        self.index = sync.index if sync.last is not None else None
-        if before is None:
-            self.first(time, number)
-            self.index = None if self._carried(time, number) else self.index
-            return
-        if self.era != sync.era:
-            self.era = sync.era
-            return
-        passed = sync.index - before
-        if passed < self.step:
-            self._extra(passed, before, time, number)
-        elif self._carried(time, number):
-            self.index = before + passed // self.step * self.step
-            self.judge.causes.add_wait(self.key, time, passed)
-        elif not self.judge.causes.has_wait(self.key, time, passed):
-            self._missing(before, passed, time, number)
-
-    def _extra(self, passed, before, time, number):
-        """A frame that no SYNC called for."""
-        if self.sync.extra or self.sync.is_overdue(time):
-            return
-        self.index = before if passed == 0 else self.index
-        when = "a second time after the same SYNC" if passed == 0 else f"{self.step - passed} SYNC too early"
-        self.tell("pdo-extra", f"it comes {when}; its type is {self.step}", time, number, [(self.line, "the one before")])
-
-    def _carried(self, time, number):
-        """Whether it has waited since before this SYNC."""
-        if not self.sync.period or self.sync.last is None:
-            return False
-        since = self.judge.bus.waited_since(number, self.sync.last - self.sync.period)
-        return since is not None and since <= self.sync.last - self.sync.period + 2 * self.judge.tolerance.jitter
-
-    def _missing(self, before, passed, time, number):
-        """It stayed away at a SYNC or more; a frame with another identifier may be what came."""
-        first = self.sync.spot(before + self.step)
-        count = passed // self.step - bool(passed % self.step == 0)
-        if self.judge.stands_for(self, first.time, time):
-            return
-        self.index = before
-        if self.node.was_silent(self, time, number):
-            self.index = self.sync.index
-            return
-        self.index = self.sync.index
-        many = f", {count:,} times one after the other" if count > 1 else ""
-        self.tell("pdo-missing", f"it doesn't come after SYNC{many}; its type is {self.step}", first.time, first.line,
-                  [(number, "here it comes again")])
-
-    def start(self, time, line):
-        if not self.has_start:
-            self.index, self.era = self.sync.index, self.sync.era
-
-    def forget(self):
-        self.last = self.index = None
-
-    def due(self):
-        return self.sync.spot(self.index + self.step).time
-
-    def is_judged(self):
-        return self.index is not None and self.sync.last is not None and self.era == self.sync.era
-
-    def is_overdue(self, time):
-        return self.is_judged() and self.sync.index - self.index > self.step
-
-    def finish(self, end):
-        if not self.is_overdue(end):
-            return
-        first = self.sync.spot(self.index + self.step)
-        if self.judge.bus.waits_since(self.key, first.time) > first.time and not self.judge.stands_for(self, first.time, end):
-            self.tell_over(end)
-
-    def tell_over(self, end):
-        first, passed = self.sync.spot(self.index + self.step), self.sync.index - self.index
-        self.tell("pdo-missing", f"it doesn't come after SYNC any more, {passed // self.step:,} times; its type is {self.step}",
-                  first.time, first.line)
-
-
-class AcyclicPdo(SyncedPdo):
-    """A TPDO of type 0: it comes after a SYNC, if it has changed."""
-
-    def take(self, time, data, number):
-        """A frame of it came."""
-        if self.sync.last is not None and time - self.sync.last > self.window:
-            self.judge_window(time, number)
-        super().take(time, data, number)
 
 
 class EventPdo(Pdo):
@@ -279,7 +172,7 @@ class EventPdo(Pdo):
             return
         if self.judge.causes.has_wait(self.key, time, gap) or self.node.was_silent(self, time, number):
             return
-        if not self.judge.stands_for(self, self.last, time):
+        if not self.judge.strays.stands_for(self, self.last, time):
             self.tell("pdo-event", f"it comes {milliseconds(gap)} after the last one, and its event time is {milliseconds(self.period)}",
                       time, number, [(self.line, "the one before")])
 
@@ -294,6 +187,9 @@ class EventPdo(Pdo):
     def is_judged(self):
         return self.last is not None and self.event > 0
 
+    def comes_by_itself(self):
+        return self.event > 0
+
     def is_overdue(self, time):
         return self.is_judged() and time - self.last > self.high
 
@@ -301,23 +197,13 @@ class EventPdo(Pdo):
         if not self.is_overdue(end):
             return
         since = self.judge.bus.waits_since(self.key, self.last + self.period)
-        if since > self.last + self.high and not self.judge.stands_for(self, self.last, end):
+        if since > self.last + self.high and not self.judge.strays.stands_for(self, self.last, end):
             self.tell_over(end)
 
     def tell_over(self, end):
-        self.tell("pdo-event", f"it doesn't come any more, for {milliseconds(end - self.last)}, and its event time is "
-                  f"{milliseconds(self.period)}", self.last + self.high, self.line)
-
-
-def follower(judge, node, tpdo):
-    """What follows a TPDO."""
-    if tpdo.kind == 0:
-        return AcyclicPdo(judge, node, tpdo)
-    if tpdo.kind is not None and tpdo.kind <= 240:
-        return SyncPdo(judge, node, tpdo)
-    if tpdo.kind in (254, 255):
-        return EventPdo(judge, node, tpdo)
-    return Pdo(judge, node, tpdo)
+        more = " any more" if self.was_seen else ""
+        self.tell("pdo-event", f"it doesn't come{more}, for {milliseconds(end - self.last)}, and its event time is "
+                  f"{milliseconds(self.period)}", *self.judge.spot(self.last + self.high))
 
 
 class Shared:
@@ -329,18 +215,3 @@ class Shared:
     def take(self, time, data, number):
         if len(data) not in self.lengths:
             self.pdos[0].changed(data, time, number)
-
-
-class Unplanned:
-    """Frames with an identifier of PDOs that no TPDO of the plan has; `recent` are the last ones of them."""
-
-    def __init__(self, judge, key):
-        self.judge, self.identifier = judge, int(key[:3], 16)
-        self.recent, self.count = [], 0
-        taker = judge.plan.taker(self.identifier)
-        self.text = f"no TPDO of the plan has the identifier {self.identifier:03X}h" + (f"; {taker} would take it" if taker else "")
-
-    def take(self, time, data, number):
-        self.count += 1
-        self.recent = self.recent[-63:] + [(time, len(data))]
-        self.judge.causes.tell("pdo-unplanned", [f"{self.identifier:03X}"], ("identifiers",), self.text, time, number)

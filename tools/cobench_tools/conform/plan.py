@@ -67,18 +67,20 @@ class Plan:
     landmarks  the times of its boot-up messages and commands, by key and bytes
     sent       its frames by their keys: time and bytes each
     consumers  who misses the heartbeats of each node, and after how many microseconds, the shortest time first
+    bit        the microseconds of a bit; `bus_bit` those on the bus that was recorded
     """
 
     def __init__(self, answered):
         self.line = None
         self.answered, self.wiring, self.evidence = answered, Wiring(answered), Evidence(answered)
         self.project, self.origins = answered.project, self.evidence.origins
-        self.manager, self.sync, heartbeat, _ = self.project.manager
+        self.manager, self.sync, heartbeat, answer = self.project.manager
+        self.answer_time = 1000 * answer
         self.manager_heartbeat, self.counter = 1000 * heartbeat, self.project.sync_counter
-        self.bit = 1000 // self.project.bitrate
+        self.bit = self.bus_bit = 1000 // self.project.bitrate
         self.nodes = {number: PlannedNode(number, node, answered.lines("cdcf", number))
                       for number, node in self.wiring.nodes.items()}
-        self.lines = trace.trace_of(answered.lines("trace"))
+        self.lines = trace.of_answer(answered.lines("trace"))
         self.frames = [(time, key_of(identifier), data.hex().upper()) for time, identifier, data in trace.frames_of(self.lines)]
         self.landmarks, self.first_sync, self.sent = {}, None, {}
         for time, key, data in self.frames:
@@ -92,6 +94,15 @@ class Plan:
             self.consumers.setdefault(watched, []).append((1000 * millis, consumer))
         for each in self.consumers.values():
             each.sort()
+
+    def times(self, key):
+        """The times of the frames of a key in the planned run."""
+        return [time for time, _ in self.sent.get(key, ())]
+
+    @property
+    def span(self):
+        """When the planned run begins and ends."""
+        return 0, max(self.project.horizon, self.frames[-1][0] if self.frames else 0)
 
     def duration(self, digits):
         """The microseconds that a frame with so many hexadecimal digits takes, without stuff bits."""
@@ -130,6 +141,12 @@ class Plan:
         message = self.wiring.message_of(tpdo)
         return ("message", message) if message else ("node", tpdo.node)
 
+    def node_of(self, about):
+        """The node that a part of the project is or is of, None for none."""
+        if about[0] == "message":
+            return self.project.messages[about[1]].node
+        return about[1] if about[0] == "node" else None
+
     def who(self, about):
         """A part of the project in words."""
         if about[0] == "node":
@@ -156,8 +173,12 @@ class Plan:
         """FILE:LINE of what has an entry written."""
         if key[0] not in PDO_OBJECTS:
             return self.evidence.value_place(node, key)
-        message = self._message_of(node, *pdo_of(key[0]))
+        message = self.message_of(node, key[0])
         return self.place(("message", message) if message else ("node", node))
+
+    def message_of(self, node, index):
+        """The message that the PDO of an object carries, None for none."""
+        return self._message_of(node, *pdo_of(index)) if index in PDO_OBJECTS else None
 
     def _message_of(self, node, direction, number):
         """The message that a TPDO of a node sends or that an RPDO takes, None for none."""

@@ -1,16 +1,16 @@
 """What `conform` tells of a log: its causes as findings, and how many frames, how full the bus, how SYNC came."""
-import json
-
-from .. import tool
+from .. import safe_text, tool
 from ..findings import ERROR, WARNING, Finding
 from ..logs.rows import NAMES
 from ..report import Report, counted, json_of
-from .bus import WINDOW
 from .causes import MOST
+from .load import WINDOW
 from .plan import milliseconds
 
 MOST_NOTES = 4
+MOST_NAMES, MOST_REASONS = 6, 4
 NO_ERROR = "emcy", "0000"
+WARNINGS = "error-frame", "remote-frame"
 
 
 def seconds(time):
@@ -21,12 +21,13 @@ def seconds(time):
 class ConformReport(Report):
     """The findings of a log beside its script.
 
-    zero  the time of the log from which times are told
+    zero        the time of the log from which times are told
+    own_errors  how many errors the script itself has, but for those that were accepted
     """
 
-    def __init__(self, plan, judge, log, own_errors):
-        self.plan, self.judge, self.log, self.own_errors = plan, judge, log, own_errors
-        self.zero = judge.begin
+    def __init__(self, plan, judge, log):
+        self.plan, self.judge, self.log, self.own_errors = plan, judge, log, 0
+        self.zero = log.start
         self.causes = judge.causes.all()
         super().__init__(plan.answered, [self.finding(cause) for cause in self.causes])
 
@@ -41,11 +42,14 @@ class ConformReport(Report):
         about = " ".join(map(str, cause.about))
         finding = Finding(place, " ".join(cause.key), about, cause.who if cause.about[0] != "identifiers" else "",
                           f"{cause.text} ({self.when(cause)})", self.notes(cause))
-        finding.severity = WARNING if (cause.code, cause.subject[-1]) == NO_ERROR else ERROR
+        is_warning = cause.code in WARNINGS or (cause.code, cause.subject[-1]) == NO_ERROR
+        finding.severity = WARNING if is_warning else ERROR
         return finding
 
     def when(self, cause):
         """When a cause was there, and how often."""
+        if not self.log.has_times:
+            return f"{cause.count:,} times, the last one in line {cause.last.line}" if cause.count > 1 else "once"
         first = seconds(cause.first.time - self.zero)
         if cause.count == 1:
             return f"at {first}"
@@ -67,6 +71,8 @@ class ConformReport(Report):
         words = [counted(self.count(ERROR), "error"), counted(self.count(WARNING), "warning")]
         words += [f"{accepted} accepted"] if accepted else []
         lines = [f"{', '.join(words)}; {self.frames_text()}{self.aligned_text()}", self.bus_text()]
+        if self.judge.absences.left:
+            lines.append(self.left_text())
         if self.judge.causes.too_many:
             lines.append(f"more causes than {MOST:,} are not told, {self.judge.causes.too_many:,} times")
         if self.plan.line:
@@ -75,14 +81,29 @@ class ConformReport(Report):
             lines.append(f"the script itself has {counted(self.own_errors, 'error')}, which cobtool check tells")
         return "\n".join(lines)
 
+    def left_text(self):
+        """What wasn't judged, and why; what has one reason stands together."""
+        reasons = {}
+        for name, why in self.judge.absences.left:
+            reasons.setdefault(why, []).append(name)
+        texts = []
+        for why, names in list(reasons.items())[:MOST_REASONS]:
+            more = f" and {len(names) - MOST_NAMES} more" if len(names) > MOST_NAMES else ""
+            texts.append(f"{', '.join(names[:MOST_NAMES])}{more} ({why})")
+        rest = sum(map(len, list(reasons.values())[MOST_REASONS:]))
+        return "not judged: " + "; ".join(texts + ([f"{rest} more"] if rest else []))
+
     def frames_text(self):
         """How many frames the log has, and what was set aside."""
         aside = [f"{number:,} {NAMES[kind][number > 1]}" for kind, number in sorted(self.log.aside.items())]
         behind = f"; set aside: {', '.join(aside)}" if aside else ""
-        return f"{self.log.frames:,} frames in {seconds(self.judge.end - self.judge.begin)}{behind}"
+        span = f" in {seconds(self.judge.end - self.judge.begin)}" if self.log.has_times else ""
+        return f"{self.log.frames:,} frames{span}{behind}"
 
     def aligned_text(self):
         alignment = self.judge.causes.alignment
+        if not self.log.has_times:
+            return ""
         if alignment.offset is None:
             return "; it lies nowhere on the planned run"
         what = "a boot-up message or command" if alignment.is_known() else "SYNC alone"
@@ -90,15 +111,23 @@ class ConformReport(Report):
 
     def bus_text(self):
         """How full the bus was, how SYNC came, and what was allowed."""
+        if not self.log.has_times:
+            return "the log has no times: neither the load nor anything else that needs them is judged"
         load = self.judge.bus.load
         shares = load.shares(load.bits)
         peak = max(range(len(shares)), key=shares.__getitem__)
-        texts = [f"load {load.total(load.bits):.1f} %, with stuff bits at most {load.total(load.most):.1f} %; its peak in "
-                 f"{WINDOW // 1000} ms {shares[peak]:.1f} %, from {seconds(peak * WINDOW)} on"]
+        texts = [f"load {load.total(load.bits):.1f} %{self.whose_text()}, with stuff bits at most {load.total(load.most):.1f} %; its peak in "
+                 f"{WINDOW // 1000} ms {shares[peak]:.1f} %, from {seconds(peak * WINDOW + load.start - self.zero)} on"]
         sync = self.judge.sync
         if sync.period and sync.count > 1:
             texts.append(f"SYNC each {milliseconds(sync.shortest)} to {milliseconds(sync.longest)}")
         return "; ".join(texts + [self.judge.tolerance.words()])
+
+    def whose_text(self):
+        """Whose frames made the load, where it isn't the network's alone."""
+        load = self.judge.bus.load
+        parts = [f"{share:.1f} % {words}" for words, share in load.whose().items()] if load.of else []
+        return f" ({', '.join(parts)})" if parts else ""
 
     # For programs.
 
@@ -113,9 +142,11 @@ class ConformReport(Report):
                  "set_aside": dict(self.log.aside), "run_begins_us": self.run_begins(),
                  "sync_us": [sync.shortest, sync.longest] if sync.period and sync.count > 1 else None,
                  "load": {"window_us": WINDOW, "percent": rounded(load.shares(load.bits)),
-                          "percent_stuffed": rounded(load.shares(load.most))},
+                          "percent_stuffed": rounded(load.shares(load.most)),
+                          "whose": {words: round(share, 2) for words, share in load.whose().items()}},
+                 "not_judged": [{"what": name, "why": why} for name, why in self.judge.absences.left],
                  "jitter_us": self.judge.tolerance.jitter, "clock_ppm": self.judge.tolerance.clock, **more}
-        return json.dumps(whole, indent=1) + "\n"
+        return safe_text.as_json(whole)
 
     def run_begins(self):
         offset = self.judge.causes.alignment.offset

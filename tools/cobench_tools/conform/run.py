@@ -2,10 +2,11 @@
 import gc
 
 from ..logs.progress import Progress
-from ..logs.source import Block
-from .bus import WINDOW
+from ..logs.intake import Block
 from .causes import Causes, Times
 from .judge import Judge
+from .load import WINDOW
+from .plan import milliseconds
 
 
 def planned_causes(plan, tolerance, window=None):
@@ -29,6 +30,8 @@ def judged(plan, log, tolerance, window=None, most=None, is_exact=False, also=()
             if log.format.resolution > tolerance.coarse + 1:
                 tolerance.coarse = log.format.resolution
                 judge.tolerate()
+            if block.set_back:
+                tell_set_back(judge, block.set_back)
             judge.take(block)
             for each in also:
                 each.take(block)
@@ -37,9 +40,18 @@ def judged(plan, log, tolerance, window=None, most=None, is_exact=False, also=()
         gc.enable()
         progress.end()
     judge.finish()
-    if most is not None:
+    if log.cut:
+        judge.causes.tell("cut", ["log"], ("log",), "the recording is cut here; what is before it is judged", judge.end, log.cut)
+    if most is not None and log.has_times:
         tell_load(judge, most)
     return judge
+
+
+def tell_set_back(judge, set_back):
+    """Tells where the recorder's clock was set back."""
+    judge.causes.tell("clock-back", ["log"], ("log",), f"the recorder's clock is set back by {milliseconds(set_back.micros)}; "
+                      "times behind it go on from the frame before", set_back.time, set_back.line)
+    judge.begin_anew(set_back.time)
 
 
 def tell_load(judge, most):

@@ -1,7 +1,9 @@
 """Follows SDO transfers between the manager and a node: what is written and read, and how it ends."""
 from .. import meaning
+from ..logs.rows import key_of
 
 WRITE, READ = "write", "read"
+ANSWERS = 0x580
 
 
 class Transfer:
@@ -35,17 +37,19 @@ class Talk:
 
     def __init__(self, boot, node):
         self.boot, self.node, self.open, self.is_last = boot, node, None, False
+        self.is_left = False
+        self.time, self.said, self.key = 0, "", key_of(ANSWERS + node.number)
 
     def forget(self):
         """The open transfer is over without an answer."""
-        self.open = None
+        self.open, self.said = None, ""
 
     def request(self, time, digits, line):
         """The manager said something."""
         data = bytes.fromhex(digits)
         if len(data) != 8:
             return
-        command = data[0] >> 5
+        self.time, command = time, data[0] >> 5
         if self.open and self.open.is_block and not (command == 6 and data[0] & 1):
             self.open.is_block = command != 4
             return
@@ -85,7 +89,7 @@ class Talk:
         """The node said something."""
         self.node.hear(time, line)
         data = bytes.fromhex(digits)
-        if len(data) != 8 or not self.open:
+        if len(data) != 8 or self._is_doubled(digits, time, line) or not self.open:
             return
         command = data[0] >> 5
         if command == 4:
@@ -97,6 +101,29 @@ class Talk:
                 self._done(time, line)
         else:
             self._read(command, data, time, line)
+
+    def _is_doubled(self, digits, time, line):
+        """Whether it said that before, and is asked something else by now or nothing at all."""
+        if self.open and self.open.is_block:
+            return False
+        said, command, asked = self.said, int(digits[0], 16) >> 1, self.open.key if self.open else None
+        if command in (2, 3, 4) and said[:8] == digits[:8] and asked != self.key_of(digits):
+            self.node.is_doubled("it answers twice", time, line)
+            return True
+        self.said = digits if command in (2, 3, 4) else ""
+        return False
+
+    @staticmethod
+    def key_of(digits):
+        """The entry of which an answer is."""
+        return int(digits[4:6] + digits[2:4], 16), int(digits[6:8], 16)
+
+    def finish(self, end):
+        """The log is over: a request that has had no answer for so long won't have any."""
+        if self.open and end - self.time > self.node.judge.plan.answer_time and self.node.judge.bus.waits_since(
+                self.key, self.time) > self.time:
+            self._unanswered()
+            self.is_left = True
 
     def _block(self, data, time, line):
         """An answer of a block transfer: it goes on until its end is confirmed."""

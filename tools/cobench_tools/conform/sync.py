@@ -6,6 +6,7 @@ from .plan import milliseconds
 
 ABOUT, KEY = ("manager",), "080#"
 KEPT, LOOKED_AT = 2048, 8
+FIRST = 1024
 
 
 class Sync:
@@ -16,8 +17,12 @@ class Sync:
     last    the time of the last one; `line` its line
     extra   how many came too soon since the last one that counts
     broken  the number of the last one at which the count was broken
-    recent  the number, time and line of the last ones
+    recent  the number, time and line of the last ones, and `early` those of the first ones
+    broken_at  when the count was broken last
+    paused  from when on it isn't known when the next one comes, None where it is
     """
+
+    key, rested, was_seen = KEY, 0, False
 
     def __init__(self, judge):
         self.judge, self.period, self.modulus = judge, judge.plan.sync, judge.plan.counter
@@ -25,7 +30,7 @@ class Sync:
         self.index = self.era = self.extra = self.line = self.count = self.broken = 0
         self.last = self.other = self.counter = None
         self.shortest = self.longest = None
-        self.recent = deque(maxlen=KEPT)
+        self.recent, self.early, self.broken_at, self.paused = deque(maxlen=KEPT), [], 0, None
 
     def tolerate(self):
         """Works out what is allowed."""
@@ -71,9 +76,30 @@ class Sync:
             self._tell("sync-unplanned", "it isn't planned", time, number)
             self.index += 1
             return True
+        if self.paused is not None and time - self.paused <= 2 * self.period:
+            return self._resumes(data, time, number)
         if gap < self.low:
             return self._early(gap, time, data, number)
         self._late(gap, time, data, number)
+        return True
+
+    def comes_by_itself(self):
+        """Whether it has a period."""
+        return bool(self.period)
+
+    def is_late(self, time):
+        """Whether one should surely have come by now."""
+        return self.last is not None and bool(self.period) and time - self.last > self.high
+
+    def pause(self, time):
+        """When the next one comes, a time on, isn't known."""
+        self.paused = time
+
+    def _resumes(self, data, time, number):
+        """The first one of which that wasn't known."""
+        self.paused, self.other, self.index = None, None, self.index + 1
+        self._break()
+        self._count(data, None, time, number)
         return True
 
     def _early(self, gap, time, data, number):
@@ -135,6 +161,7 @@ class Sync:
 
     def _break(self):
         """What was counted before says nothing of what comes."""
+        self.broken_at = self.last
         self.era, self.broken = self.era + 1, self.index - 1
 
     def _count(self, data, step, time, number):
@@ -164,17 +191,34 @@ class Sync:
 
     def spot(self, index):
         """The time and line of the SYNC of a number, as far as they are kept."""
+        if self.early and index < self.recent[0][0] and index <= self.early[-1][0]:
+            return next(Spot(time, line) for each, time, line in reversed(self.early) if each <= index or each == 1)
         for each, time, line in reversed(self.recent):
             if each <= index:
                 return Spot(time, line)
-        return Spot(self.last, self.line)
+        return self.judge.spot(self.last - (self.index - index) * self.period)
 
-    def finish(self, end, line):
-        """The log is over."""
+    def keep(self):
+        """Keeps the first ones; it is asked after each block."""
+        if len(self.early) < FIRST:
+            behind = self.early[-1][0] if self.early else 0
+            self.early += [each for each in self.recent if each[0] > behind]
+
+    def after(self, time, count):
+        """The place of the one so many from a time on, None where there are no more behind that."""
+        kept = self.early if self.early and self.early[-1][1] > time else list(self.recent)
+        later = [each for each in kept if each[1] >= time][:count]
+        if len(later) == count and later[-1][0] < self.index:
+            return Spot(*later[-1][1:])
+        if len(later) == count or (self.last - time) // self.period <= count:
+            return None
+        return self.judge.spot(time + count * self.period)
+
+    def finish(self, end):
+        """The log is over; whether it came at all is judged elsewhere."""
         if not self.period:
             return
-        if self.last is None and end - self.judge.begin > 2 * self.period:
-            self._tell("sync-missing", f"there is none; the period is {milliseconds(self.period)}", self.judge.begin, line)
-        elif self.last is not None and end > self.last + self.high + self.allowed + self.period // 2:
+        if self.last is not None and end > self.last + self.high + self.allowed + self.period // 2:
             if self.judge.bus.waits_since(KEY, self.last + self.period) > self.last + self.high:
-                self._tell("sync-missing", f"none comes any more; the period is {milliseconds(self.period)}", self.last, self.line)
+                self._tell("sync-missing", f"none comes any more; the period is {milliseconds(self.period)}",
+                           *self.judge.spot(self.last + self.high), [(self.line, "the last one")])

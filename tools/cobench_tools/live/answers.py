@@ -6,7 +6,7 @@ import copy
 import functools
 import re
 
-from .. import concise, device, findings, ini, matrix, pdo_values, tool
+from .. import concise, device, findings, ini, matrix, pdo_values, safe_text, tool
 from ..evidence import Evidence
 from ..report import Report, json_of
 from .network import Tables
@@ -18,7 +18,7 @@ def wrong_item(records, diagnostics):
     """What is wrong, by the records of `check`, and the lines of `diag`."""
     counts = {severity: sum(each["severity"] == severity for each in records) for severity in ("error", "warning")}
     return {"errors": counts["error"], "warnings": counts["warning"], "findings": records,
-            "diagnostics": [tool.readable(tool.shown(line)) for line in diagnostics]}
+            "diagnostics": [safe_text.readable(tool.shown(line)) for line in diagnostics]}
 
 
 class File:
@@ -73,7 +73,7 @@ def shown_value(key, entry, data):
         return matrix.NONE
     if pdo_values.is_of_pdos(key[0]):
         return f"{int.from_bytes(data, 'little'):X}h"
-    return tool.readable(matrix.value_text(entry.kind if entry else 0, data))
+    return safe_text.readable(matrix.value_text(entry.kind if entry else 0, data))
 
 
 def readable_lines(lines):
@@ -81,7 +81,7 @@ def readable_lines(lines):
     try:
         return b"\n".join(lines).decode().split("\n") if lines else []
     except UnicodeDecodeError:
-        return [tool.readable(tool.shown(line)) for line in lines]
+        return [safe_text.readable(tool.shown(line)) for line in lines]
 
 
 def marks_of(file, before):
@@ -94,7 +94,7 @@ def marks_of(file, before):
     old, marks = ini.sections_of(before.lines), []
     for name, section in ini.sections_of(file.lines).items():
         was = old.get(name, {})
-        marks += [[section.lines[key] - 1, tool.readable(was[key]) if key in was else None]
+        marks += [[section.lines[key] - 1, safe_text.readable(was[key]) if key in was else None]
                   for key, value in section.items() if was.get(key) != value]
     return sorted(marks, key=lambda mark: mark[0])
 
@@ -105,7 +105,7 @@ def marks_of_values(lines, old):
     pairs = [(ini.pair_in(lines[place]), ini.pair_in(old[place])) for place in places]
     if len(lines) != len(old) or not all(now and was and now[0] == was[0] for now, was in pairs):
         return None
-    return [[place, tool.readable(was[1])] for place, (now, was) in zip(places, pairs) if now[1] != was[1]]
+    return [[place, safe_text.readable(was[1])] for place, (now, was) in zip(places, pairs) if now[1] != was[1]]
 
 
 class Answers:

@@ -3,6 +3,8 @@
 A window in which no line tells more than itself goes to the page as it stands in the trace, with the sort of each different
 frame (`of`): by its identifier and size, as `185 [8]`, or by its whole text where another frame of these is of another sort.
 """
+from typing import Dict
+
 from ..bundle import Ready, content_text
 from ..picture import Drawing, Window
 from ..trace import Frame, frame_behind, trace_of
@@ -40,7 +42,8 @@ class Frames:
 class Plain:
     """A window in which no line tells more than itself; what it has is that of a Window."""
 
-    flags, boots, said, noted = (), (), {}, ()
+    flags, boots, noted = (), (), ()
+    said: Dict[int, str] = {}
 
     def __init__(self, at, text, frames, changes):
         self.at, self._text, self._frames, self.changes = at, text, frames, changes

@@ -7,8 +7,10 @@ import gc
 import os
 import time
 
-from .. import reader, session, tool
+from .. import own_faults, reader, safe_text, session, tool
+from .again import Again
 from .answers import Answers
+from .children import Children
 from .ledger import MOST_SAVES, Save
 from .opened import Ended
 from .programs import Programs
@@ -29,9 +31,11 @@ class Follower:
     """Follows a script, over the program that these words start, into a feed."""
 
     def __init__(self, path, words, feed):
-        self.path, self.words, self.feed = path, words, feed
-        self.programs, self.watch, self.answers, self.run = Programs(words), watch.Watch(), Answers(), Run()
+        self.path, self.words, self.feed, self.watch = path, words, feed, watch.Watch()
+        self.children = Children(self.watch.has_moved)
+        self.programs, self.answers, self.run = Programs(words, self.children), Answers(), Run()
         self.number, self.records, self.is_first = 0, [], True
+        self.again, self.files, self.said = Again(), [], None
         self.looks, self.since, self.answered, self.drawn = 0, 0.0, None, {}
 
     # Looking.
@@ -41,7 +45,12 @@ class Follower:
         changed = self.watch.changed() if self.number else [self.path]
         why = "" if changed else self.programs.why_ended()
         if changed or why:
+            self.number, self.files = self.number + 1, changed
+            self.again.clear()
+            self.say("working", safe_text.readable(why) or "the script was saved")
             self.update(changed, why)
+        elif self.again.is_due():
+            self.update(self.files)
         elif not gc.isenabled() and time.monotonic() > self.since + RESTS:
             gc.enable()
             gc.collect()
@@ -51,6 +60,10 @@ class Follower:
         """Ends all that it has started."""
         self.programs.close()
         gc.enable()
+
+    def kill(self):
+        """Ends all that it has started at once, from another thread."""
+        self.children.kill()
 
     def saved(self, name):
         """The bytes and the type of a node's file, as `5.dcf`, else None."""
@@ -65,7 +78,6 @@ class Follower:
 
     def update(self, files, why=""):
         """Brings the open cobench and the feed to what the script makes now; what can wait comes behind it."""
-        self.number += 1
         gc.disable()
         for self.looks in range(watch.MOST_LOOKS, 0, -1):
             try:
@@ -80,22 +92,28 @@ class Follower:
         """Follows what the files have now."""
         save = Save(self.number, [os.path.basename(file) for file in files])
         save.saved = max([watch.written_at(file) for file in files], default=0)
-        self.say("working", tool.readable(why) or "the script was saved")
         try:
             pairs, new = self.read(save)
             self.lead(save, pairs, new, why)
             self.answer(save)
-        except tool.Fault as fault:
-            self.settle()
-            self.say("fault", tool.readable(str(fault)))
-        except Ended as ended:
-            self.programs.close()
-            self.say("fault", tool.readable(str(ended)))
+            self.again.clear()
         except Moved:
             raise
+        except tool.Fault as fault:
+            self.settle()
+            self.fail(fault, str(fault))
+        except Ended as ended:
+            self.programs.close()
+            self.fail(ended, str(ended))
         except Exception as error:      # a slip of cobtool may not end what a person sits before
+            own_faults.show(error)
             self.forget()
-            self.say("fault", f"cobtool itself: {type(error).__name__}: {error}; the next save begins afresh")
+            self.fail(error, f"cobtool itself: {own_faults.words_of(error)}; the next save begins afresh")
+
+    def fail(self, error, words):
+        """Says what went wrong; what may pass by itself is tried again."""
+        self.again.failed(error)
+        self.say("fault", safe_text.readable(words))
 
     def settle(self):
         """What was read can be told once the files stand still, unless they never do."""
@@ -105,13 +123,16 @@ class Follower:
     def forget(self):
         """Forgets all that was kept, on the page too."""
         self.programs.close()
-        self.programs, self.answers, self.run, self.is_first = Programs(self.words), Answers(), Run(), True
+        self.programs, self.answers, self.run = Programs(self.words, self.children), Answers(), Run()
+        self.is_first = True
         self.drawn = {}
         self.feed.clear()
 
     def say(self, state, words, waits=""):
-        """What is the matter, on the page."""
-        self.feed.put({"status": status_item(state, words, waits, time.strftime("%H:%M:%S"))})
+        """What is the matter, on the page; a fault that was tried again and stays is told once."""
+        if (state, words) != self.said or state != "fault":
+            self.feed.put({"status": status_item(state, words, waits, time.strftime("%H:%M:%S"))})
+        self.said = state, words
 
     def read(self, save):
         """The commands of the script with their replies, and the project that they make."""
@@ -151,7 +172,7 @@ class Follower:
     def start_afresh(self, save, pairs, new, why):
         """Starts a cobench that makes a project."""
         self.settle()
-        save.why, save.edits = tool.readable(why), None
+        save.why, save.edits = safe_text.readable(why), None
         with save.step("started afresh"):
             self.programs.start(new)
             if not self.is_led(pairs):

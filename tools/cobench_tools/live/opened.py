@@ -1,19 +1,24 @@
 """A cobench that stays open: commands go in, and each has its reply before more is needed."""
 import contextlib
 import os
+import queue
 import re
 import select
 import subprocess
 import tempfile
 import threading
+import time
 
-from .. import replies, tool
+from .. import replies, safe_text, tool
+from .children import WAIT, Children, kill
 
 ACCEPTED = b"ok\n"
 PIECE = 1 << 20
 MANY = 4096     # lines that aren't gone through one by one
 SET_PIPE_SIZE = 1031    # of Linux: a long answer then takes few reads
-WAIT = 5.0      # seconds that a cobench has to end once nothing more comes
+LONGEST_LINE = 1 << 16  # bytes of a line in which a reply begins
+LOOK = 0.5      # seconds between two looks whether what is being waited for is wanted at all
+SILENT = 30.0   # seconds without a word after which a cobench is given up, where there is a newer save
 
 
 class Ended(Exception):
@@ -25,6 +30,13 @@ def widen(stream):
     with contextlib.suppress(ImportError, OSError):
         import fcntl
         fcntl.fcntl(stream.fileno(), SET_PIPE_SIZE, PIECE)
+
+
+def comes(stream, seconds):
+    """Whether something comes from a program within a time, or its end."""
+    looked = select.poll()
+    looked.register(stream, select.POLLIN)
+    return bool(looked.poll(seconds * 1000))
 
 
 def lines_of(text):
@@ -47,27 +59,30 @@ def end_of(text, count, there):
 
 
 class Opened:
-    """A cobench over pipes.
+    """A cobench over pipes, one of these children.
 
     work  what it says at its end on what it made anew (`--work`), in words, "" where it doesn't say
     due   how many replies to what was sent haven't been taken yet
     """
 
-    def __init__(self, words):
+    def __init__(self, words, children=None):
         self.words, self.work, self.due = words, "", 0
-        self._faults = tempfile.TemporaryFile()
-        try:
-            self._process = subprocess.Popen(words + ["--work"], stdin=subprocess.PIPE, stdout=subprocess.PIPE, stderr=self._faults)
-        except OSError as error:
-            self._faults.close()
-            raise tool.Fault(f"{words[0]}: {error.strerror}") from None
-        self._read, self._at = b"", 0
+        self._children = children or Children()
+        with contextlib.ExitStack() as opened:
+            try:
+                self._faults = opened.enter_context(tempfile.TemporaryFile())
+                self._process = self._children.start(words + ["--work"], bufsize=0, stdin=subprocess.PIPE,
+                                                     stdout=subprocess.PIPE, stderr=self._faults)
+            except OSError as error:
+                raise tool.Fault(f"{words[0]}: {error.strerror}") from None
+            opened.pop_all()
+        self._read, self._at, self._texts, self._writer = b"", 0, queue.SimpleQueue(), None
         widen(self._process.stdout)
 
     def send(self, text, count):
         """Sends that many commands, which are this text; their replies are taken later."""
         self.due += count
-        threading.Thread(target=self._write, args=(text,), daemon=True).start()
+        self._write(text)
 
     def take(self, count):
         """The next replies to what was sent."""
@@ -115,33 +130,41 @@ class Opened:
 
     def is_answering(self):
         """Whether some of its output is there."""
-        return self._at < len(self._read) or bool(select.select([self._process.stdout], [], [], 0)[0])
+        return self._at < len(self._read) or comes(self._process.stdout, 0)
 
     def is_running(self):
         return self._process.poll() is None
 
-    def close(self):
-        """Ends the program."""
-        for stream in (self._process.stdin, self._process.stdout):
-            try:
-                stream.close()
-            except OSError:
-                pass
-        try:
-            self._process.wait(WAIT)
-        except subprocess.TimeoutExpired:
-            self._process.kill()
-            self._process.wait()
+    def let_go(self):
+        """Nothing more comes: it ends by itself, unless replies are due, which nobody waits for any more."""
+        if self.due:
+            kill(self._process)
+        self._write(None)
+
+    def close(self, until=None):
+        """Ends the program, which has time until then, else for a while."""
+        self.let_go()
+        self._children.end(self._process, until or time.monotonic() + WAIT)
         self.work = self._last_words() if self._process.returncode == 0 else ""
+        self._process.stdout.close()
         self._faults.close()
 
     def _write(self, text):
-        """Writes in a thread of its own, so that neither side waits for the other for ever."""
-        try:
-            self._process.stdin.write(text)
-            self._process.stdin.flush()
-        except (OSError, ValueError):
-            pass        # it ended: who reads the replies learns of it
+        """Has a text written, or the input closed for None, by a thread: neither side waits for the other for ever."""
+        self._texts.put(text)
+        if not self._writer:
+            self._writer = threading.Thread(target=self._write_all, daemon=True)
+            self._writer.start()
+
+    def _write_all(self):
+        """Writes the texts; where the program ended, who reads the replies learns of it."""
+        with contextlib.suppress(OSError, ValueError):
+            for text in iter(self._texts.get, None):
+                left = memoryview(text)
+                while left:
+                    left = left[self._process.stdin.write(left):]
+        with contextlib.suppress(OSError):
+            self._process.stdin.close()
 
     def _reply(self):
         line = self._next_line()
@@ -169,6 +192,8 @@ class Opened:
         while end < 0:
             self._read, self._at = self._read[self._at:] + self._piece(), 0
             end = self._read.find(b"\n")
+            if end < 0 and len(self._read) > LONGEST_LINE:
+                raise Ended(f"{self.words[0]}: this is no reply: {tool.shown(self._read[:60])}")
         line, self._at = self._read[self._at:end], end + 1
         return line
 
@@ -195,7 +220,12 @@ class Opened:
         return b"".join(parts)
 
     def _piece(self):
-        """Reads on."""
+        """Reads on; gives a program up that says nothing, where something newer waits."""
+        since = time.monotonic()
+        while not comes(self._process.stdout, LOOK):
+            if time.monotonic() - since > SILENT and self._children.is_other_work():
+                silent = f"said nothing for {time.monotonic() - since:.0f} seconds"
+                raise Ended(f"{self.words[0]} {silent}, and the script was saved anew")
         piece = os.read(self._process.stdout.fileno(), PIECE)
         if not piece:
             raise Ended(self._why_ended())
@@ -213,7 +243,7 @@ class Opened:
     def _last_words(self):
         """The last line that it wrote on its standard error."""
         self._faults.seek(0)
-        lines = tool.readable(tool.shown(self._faults.read())).strip().splitlines()
+        lines = safe_text.lines(tool.shown(self._faults.read())).strip().splitlines()
         return lines[-1] if lines else ""
 
 

@@ -1,8 +1,10 @@
 """The cobenches behind the page: one that stays open, with its last replies, and one that works out each script's project apart."""
 import contextlib
 import functools
+import time
 
 from .. import tool
+from .children import WAIT
 from .edits import NEVER, edits, first_moment, first_project, items_of, moment_of, nodes_of_files
 from .opened import Ended, Opened, lines_of, work_in_words
 from .run import WINDOW
@@ -50,7 +52,7 @@ def parts_of(first, horizon):
 
 
 class Programs:
-    """The cobenches that these words start.
+    """The cobenches that these words start, as children.
 
     opened   the open one, and `made` the project that it was led to
     work     what the last one that was ended says it has made anew, in words
@@ -59,8 +61,9 @@ class Programs:
     parts    the horizons to which the run is still to be taken, before all of it
     """
 
-    def __init__(self, words):
-        self.words, self.opened, self.made, self.work, self.is_long = words, None, None, "", False
+    def __init__(self, words, children):
+        self.words, self.children = words, children
+        self.opened, self.made, self.work, self.is_long = None, None, "", False
         self._spare, self._past = None, []
         self._replies, self._current, self._asked = {}, set(), []
         self._edits, self._before, self._runs, self.parts = [], None, [], []
@@ -69,7 +72,7 @@ class Programs:
 
     def apart(self, commands):
         """The replies of a cobench of its own to some commands, and the project that they make."""
-        opened, self._spare = self._spare if self._spare and self._spare.is_running() else Opened(self.words), None
+        opened, self._spare = self._spare if self._spare and self._spare.is_running() else Opened(self.words, self.children), None
         self._past.append(opened)
         try:
             opened.send(b"".join(commands + [b"project\n"]), len(commands) + 1)
@@ -83,14 +86,14 @@ class Programs:
             self._past.pop().close()
         if self.opened and not self._spare:
             with contextlib.suppress(tool.Fault):
-                self._spare = Opened(self.words)
+                self._spare = Opened(self.words, self.children)
 
     # The open one.
 
     def start(self, new):
         """Starts it afresh, with a project."""
         self.close()
-        self.opened, self._runs = Opened(self.words), []
+        self.opened, self._runs = Opened(self.words, self.children), []
         self.ask(edits(first_project(), new.items), new)
 
     def edits_to(self, new):
@@ -176,18 +179,20 @@ class Programs:
         return f"{self.words[0]} ended"
 
     def close(self):
-        """Ends all of them."""
-        if self.opened:
-            self.opened.close()
-            self.work, self.opened = work_in_words(self.opened.work), None
-        for each in self._past + ([self._spare] if self._spare else []):
-            each.close()
-        self._spare, self._past = None, []
+        """Ends all of them, which have the same time for it."""
+        running = [each for each in (self.opened, self._spare, *self._past) if each]
+        for each in running:
+            each.let_go()
+        until = time.monotonic() + WAIT
+        for each in running:
+            each.close(until)
+        self.work = work_in_words(self.opened.work) if self.opened else self.work
+        self.opened, self._spare, self._past = None, None, []
 
 
-def probe(words):
+def probe(words, children):
     """Whether the program can be run at all."""
-    opened = Opened(words)
+    opened = Opened(words, children)
     try:
         opened.lines(b"project")
     except Ended as ended:

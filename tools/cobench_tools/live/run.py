@@ -1,7 +1,8 @@
 """The run of a project as the page draws it, kept by windows of ten milliseconds: what stays the same isn't made anew."""
 from collections import namedtuple
+from typing import Any, Dict, Tuple
 
-from .. import boots, findings, meaning
+from .. import boots, findings, meaning, receiver_names
 from ..boots import is_boot_up
 from ..picture import OTHERS, STATES, Sorts, event_flag, events_of, first_states, go_on, in_order, told_by_node
 from .drawing import TextDrawing
@@ -98,13 +99,13 @@ def stands_at(text, place, span):
     return text.startswith(span, place) and text[end:end + DIGITS] != span[:DIGITS]
 
 
-def words_of(project):
+def words_of(project, devices):
     """What of a project the words of a trace depend on."""
     messages = sorted((name, each.node, each.tpdo) for name, each in project.messages.items())
-    return project.manager[0], project.nodes, project.texts, messages
+    return project.manager[0], project.nodes, project.texts, messages, receiver_names.of_project(project, devices)
 
 
-NOTHING = {}, {}     # what a trace has told before its first line
+NOTHING: Tuple[Dict[Any, Any], Dict[Any, Any]] = ({}, {})     # what a trace has told before its first line
 
 
 class Run:
@@ -123,7 +124,7 @@ class Run:
 
     def take(self, text, project, devices, known=None):
         """Takes the text of a trace, whole or to a moment: the numbers of the windows that are other than before, or are gone."""
-        before, words = self.windows, words_of(project)
+        before, words = self.windows, words_of(project, devices)
         if words != self._words or len(self.sorts.rows) > MOST_SORTS:
             before, self._words = {}, words
             self._begin(project, devices)

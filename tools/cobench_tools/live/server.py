@@ -1,46 +1,91 @@
-"""The page over HTTP: on this machine alone, for browsers that ask by its own name, with fixed paths and nothing of the disk."""
+"""The page over HTTP: on this machine alone, for browsers that ask by its own name and know its word.
+
+Its paths are fixed, and there is nothing of the disk.
+"""
 import base64
+import errno
 import hashlib
+import hmac
+import http.client
 import http.server
 import re
+import sys
+import time
+import urllib.parse
 
-from .. import bundle
+from .. import bundle, own_faults
 
 ADDRESS = "127.0.0.1"
 READ_METHODS = ("GET", "HEAD")
+WORD = "k"              # what the address calls its word, which is no cookie: other servers of the machine would get that
 STILL_HERE = 10.0       # seconds after which a browser is told that nothing is new
 LONGEST_WRITE = 30.0    # seconds for which a browser may take nothing of what it is sent
 
+SHORT_OF = (errno.EMFILE, errno.ENFILE, errno.ENOBUFS, errno.ENOMEM)
+PAUSE = 0.1             # seconds until a connection is taken on again, where the system is short of something
+LOOK = 0.1              # seconds between two looks whether the server is to end
+
 HEADERS = {"Cache-Control": "no-store", "X-Content-Type-Options": "nosniff", "Referrer-Policy": "no-referrer",
-           "Cross-Origin-Resource-Policy": "same-origin"}
+           "Cross-Origin-Resource-Policy": "same-origin",
+           "Content-Security-Policy": "default-src 'none'; frame-ancestors 'none'"}
 
 
 def policy(page):
     """What the page may do: run its own script, and ask this server."""
     script = re.search(r"<script>(.*?)</script>", page, re.DOTALL).group(1)
     digest = base64.b64encode(hashlib.sha256(script.encode()).digest()).decode()
-    return (f"default-src 'none'; script-src 'sha256-{digest}'; style-src 'unsafe-inline'; img-src data:; connect-src 'self'; "
-            "base-uri 'none'; form-action 'none'; frame-ancestors 'none'")
+    return (f"default-src 'none'; script-src 'sha256-{digest}'; style-src 'unsafe-inline'; img-src data:; "
+            "connect-src 'self'; base-uri 'none'; form-action 'none'; frame-ancestors 'none'")
+
+
+def hosts_of(port):
+    """What a browser calls the server; it leaves the port of HTTP out."""
+    names = (ADDRESS, "localhost")
+    return {f"{name}:{port}" for name in names} | ({*names} if port == http.client.HTTP_PORT else set())
 
 
 class Server(http.server.ThreadingHTTPServer):
-    """Serves the page of a title, the items of a feed, and the files that `saved` gives by their names."""
+    """Serves the page of a title, the items of a feed, and the files that `saved` gives by their names.
+
+    word  what the address has to have, "" where anybody of this machine may look
+    """
 
     daemon_threads = True
 
-    def __init__(self, port, title, feed, saved):
+    def __init__(self, port, title, feed, saved, word=""):
         super().__init__((ADDRESS, port), Handler)
-        self.feed, self.saved, self.is_closing = feed, saved, False
+        self.feed, self.saved, self.word, self.is_closing = feed, saved, word, False
         self.page = bundle.live_page({"title": title})
         self.policy = policy(self.page)
-        self.hosts = {f"{name}:{self.server_port}" for name in (ADDRESS, "localhost")}
+        self.hosts = hosts_of(self.server_port)
 
     @property
     def address(self):
-        return f"http://{ADDRESS}:{self.server_port}/"
+        return f"http://{ADDRESS}:{self.server_port}/" + (f"?{WORD}={self.word}" if self.word else "")
+
+    def is_known(self, query):
+        """Whether the query of an address has the word."""
+        given = urllib.parse.parse_qs(query).get(WORD, [""])[0]
+        return not self.word or hmac.compare_digest(given.encode("utf-8", "replace"), self.word.encode())
+
+    def serve(self):
+        """Serves until it is closed."""
+        self.serve_forever(LOOK)
+
+    def get_request(self):
+        """Takes a connection on; where the system is short of something, only after a while."""
+        try:
+            return super().get_request()
+        except OSError as error:
+            if error.errno in SHORT_OF:
+                time.sleep(PAUSE)
+            raise
 
     def handle_error(self, request, client_address):
         """A browser that goes away is no error."""
+        error = sys.exc_info()[1]
+        if not isinstance(error, OSError):
+            own_faults.show(error)
 
     def close(self):
         self.is_closing = True
@@ -64,20 +109,34 @@ class Handler(http.server.BaseHTTPRequestHandler):
 
     def answer(self):
         """Answers a request."""
-        path = self.path.split("?", 1)[0]
-        file = re.fullmatch(r"/files/([0-9]+\.[a-z]+)", path)
+        path, _, query = self.path.partition("?")
         if self.headers.get("Host", "").lower() not in self.server.hosts:
             self.put(403, "this page has another name")
         elif self.command not in READ_METHODS:
             self.put(405, "the page is only read", Allow=", ".join(READ_METHODS))
-        elif path == "/":
-            self.put(200, self.server.page, "text/html; charset=utf-8", **{"Content-Security-Policy": self.server.policy})
+        elif not self.server.is_known(query):
+            self.put(403, "the address has no word, or an old one: open the address that cobtool live has printed")
+        else:
+            self.answer_path(path)
+
+    def answer_path(self, path):
+        """Answers a request for a path."""
+        name = re.fullmatch(r"/files/([0-9]+\.[a-z]+)", path)
+        file = self.server.saved(name.group(1)) if name else None
+        if path == "/":
+            policy = {"Content-Security-Policy": self.server.policy}
+            self.put(200, self.server.page, "text/html; charset=utf-8", **policy)
         elif path == "/feed":
             self.put_events()
-        elif file and self.server.saved(file.group(1)):
-            self.put(200, *self.server.saved(file.group(1)))
+        elif file:
+            self.put(200, *file)
         else:
             self.put(404, "there is no such page")
+
+    def send_error(self, code, message=None, explain=None):
+        """What http.server itself refuses, with the headers of all answers."""
+        self.request_version = "HTTP/1.0"
+        self.put(code, http.HTTPStatus(code).phrase)
 
     def put(self, status, content, kind="text/plain; charset=utf-8", **more):
         """Puts an answer that is whole."""

@@ -23,9 +23,8 @@ def stamp_of(path):
 def digest_of(path):
     """What says which content a file has, None where it can't be read."""
     try:
-        with open(path, "rb") as file:
-            return hashlib.sha256(file.read()).digest()
-    except (OSError, ValueError):
+        return hashlib.sha256(tool.read(path)).digest()
+    except tool.Fault:
         return None
 
 
@@ -76,12 +75,12 @@ class Watch:
         start = time.time()
         for _ in range(MOST_LOOKS):
             wait = max((until(stamp, start) for stamp, _ in self._files.values()), default=start) - time.time()
-            if not 0 < wait <= FILLED or self._has_moved():
+            if not 0 < wait <= FILLED or self.has_moved():
                 break
             time.sleep(min(wait, SETTLED))
-        return not self._has_moved()
+        return not self.has_moved()
 
-    def _has_moved(self):
+    def has_moved(self):
         """Whether a file is other than it was; of one that was written just now, its time doesn't tell alone."""
         late = time.time() - JUST_NOW
         return any(stamp_of(path) != stamp or stamp and stamp[0] / 1e9 > late and digest_of(path) != digest

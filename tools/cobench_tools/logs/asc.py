@@ -1,6 +1,7 @@
 """Logs of Vector's tools (ASC): `   1.000055 1  181             Rx   d 4 37 06 A8 61`."""
 import re
 
+from ..digits import decimal, hexadecimal
 from .rows import ERROR, EXTENDED, FLEXIBLE, GREATEST, OTHER, REMOTE, Aside, Unreadable, are_rows, key_of, micros, resolution
 
 BASE = re.compile(r"base\s+(hex|dec)(?:\s+timestamps\s+(absolute|relative))?", re.IGNORECASE)
@@ -40,11 +41,11 @@ class Asc:
             self.base = 10 if base.group(1).lower() == "dec" else 16
             self.is_relative = (base.group(2) or "").lower() == "relative"
         if FAILED.fullmatch(line):
-            self._time(FAILED.fullmatch(line).group(1))
-            return Aside(ERROR)
+            stamp, channel = FAILED.fullmatch(line).groups()
+            return Aside(ERROR, self._time(stamp), channel)
         if TIMED.match(line):
-            self._time(line.split()[0])
-            return None if "of measurement" in line or "TriggerBlock" in line else Aside(OTHER)
+            time = self._time(line.split()[0])
+            return None if "of measurement" in line or "TriggerBlock" in line else Aside(OTHER, time)
         return None
 
     def _time(self, text):
@@ -55,12 +56,13 @@ class Asc:
 
     def _classic(self, stamp, channel, identifier, extended, kind, size, data):
         time = self._time(stamp)
-        size = int(size or "0", 16)
-        if kind == "r":
-            return Aside(REMOTE, 0)
-        if extended:
-            return Aside(EXTENDED, min(size, 8))
-        return self._frame(time, channel, identifier, min(size, 8), (data or "").split())
+        size = hexadecimal(size or "0")
+        if kind == "r" or extended:
+            number = self._number(identifier)
+            if kind == "r":
+                return Aside(REMOTE, time, channel, number)
+            return Aside(EXTENDED, time, channel, number, self._data(data, min(size, 8)))
+        return self._frame(time, channel, identifier, min(size, 8), data)
 
     def _flexible(self, line):
         """A line of a bus with flexible data rate, which may be a classic frame; None for another one."""
@@ -70,18 +72,25 @@ class Asc:
         stamp, channel, _, identifier, extended, rest = found.groups()
         words = rest.split()
         words = words if words[0] in ("0", "1") and len(words) > 3 and words[1] in ("0", "1") else words[1:]
-        size, behind = int(words[3]), words[4:]
-        flags = int(behind[size + 2], 16) if len(behind) > size + 2 else IS_FD
+        size, behind = decimal(words[3]), words[4:]
+        flags = hexadecimal(behind[size + 2]) if len(behind) > size + 2 else IS_FD
         time = self._time(stamp)
-        if flags & IS_FD:
-            return Aside(FLEXIBLE)
-        if extended:
-            return Aside(EXTENDED, size)
-        return self._frame(time, channel, identifier, size, behind[:size])
+        if flags & IS_FD or extended:
+            number = self._number(identifier)
+            return Aside(FLEXIBLE if flags & IS_FD else EXTENDED, time, channel, number, self._data(" ".join(behind), size))
+        return self._frame(time, channel, identifier, size, " ".join(behind))
+
+    def _data(self, data, size):
+        """The hexadecimal digits of so many bytes of a text."""
+        return "".join(f"{self._number(byte):02X}" for byte in (data or "").split()[:size])
+
+    def _number(self, text):
+        """A number of the base that the file says."""
+        return hexadecimal(text) if self.base == 16 else decimal(text)
 
     def _frame(self, time, channel, identifier, size, data):
-        number = int(identifier, self.base)
-        data = "".join(f"{int(byte, self.base):02X}" for byte in data[:size])
+        number = self._number(identifier)
+        data = self._data(data, size)
         if number > GREATEST or len(data) != 2 * size:
             raise Unreadable("this is no frame")
         return time, channel, key_of(number), data
@@ -103,12 +112,12 @@ class Asc:
         for line in lines:
             head, found, tail = line.partition(mark)
             stamp, number, identifier, _ = head.split()
-            data = tail[2:].replace(" ", "")
-            if not found or number != channel or stamp[-7] != "." or len(data) != 2 * int(tail[0]):
+            data, digits = tail[2:].replace(" ", ""), stamp[:-7] + stamp[-6:]
+            if not found or number != channel or stamp[-7] != "." or len(data) != 2 * int(tail[0]) or not digits.isdecimal():
                 return None
             if identifier not in keys:
-                keys[identifier] = key_of(int(identifier, 16))
-            rows.append((int(stamp[:-7] + stamp[-6:]), keys[identifier], data))
+                keys[identifier] = key_of(hexadecimal(identifier))
+            rows.append((int(digits), keys[identifier], data))
         return rows
 
 

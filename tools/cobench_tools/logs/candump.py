@@ -6,6 +6,7 @@ from .rows import ERROR, ERROR_FLAG, EXTENDED, FLEXIBLE, GREATEST, REMOTE, Aside
 LINE = re.compile(r"\(\s*([0-9]+\.[0-9]+)\)\s+(\S+)\s+([0-9A-Fa-f]{3}|[0-9A-Fa-f]{8})#(\S*)(?:\s+[RT])?\s*")
 DATA = re.compile("(?:[0-9A-Fa-f]{2}){0,8}")
 HEAD = re.compile(r"\(([0-9]+)([0-9]{6})\) (\S+) [0-9A-F]{3}#[0-9A-F]*( [RT]|)(\r|)")
+MOST_OF_29 = (1 << 29) - 1
 REMOTE_DATA = re.compile("R[0-9A-F]?")
 
 
@@ -31,8 +32,10 @@ class Candump:
             raise Unreadable("this is no line of candump -L")
         time, channel, identifier, data = found.groups()
         self.resolution = max(self.resolution, resolution(len(time.partition(".")[2]), 1_000_000))
-        kind = kind_of(identifier, data)
-        return kind or (micros(time), channel, key_of(int(identifier, 16)), data.upper())
+        kind, number = kind_of(identifier, data), int(identifier, 16)
+        if kind:
+            return Aside(kind, micros(time), channel, None if kind == ERROR else number & MOST_OF_29, data.upper() if kind == EXTENDED else "")
+        return micros(time), channel, key_of(number), data.upper()
 
     def rows(self, text, channel):
         """The rows of whole lines, None where they aren't all of one shape."""
@@ -77,13 +80,11 @@ WITHOUT = str.maketrans("", "", "0123456789ABCDEF#() \r\nRT")
 def kind_of(identifier, data):
     """What a frame is that the network doesn't have, else None."""
     if len(identifier) == 8 and int(identifier, 16) & ERROR_FLAG:
-        return Aside(ERROR)
+        return ERROR
     if data.startswith("#"):
-        return Aside(FLEXIBLE)
-    if len(identifier) == 8:
-        return Aside(EXTENDED, len(data) // 2)
+        return FLEXIBLE
     if REMOTE_DATA.fullmatch(data):
-        return Aside(REMOTE, 0)
-    if int(identifier, 16) > GREATEST or not DATA.fullmatch(data):
+        return REMOTE
+    if not DATA.fullmatch(data) or len(identifier) < 8 and int(identifier, 16) > GREATEST:
         raise Unreadable("this is no frame")
-    return None
+    return EXTENDED if len(identifier) == 8 else None

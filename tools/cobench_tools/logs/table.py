@@ -2,12 +2,22 @@
 import binascii
 import re
 
-from .rows import ERROR, EXTENDED, GREATEST, REMOTE, Aside, Unreadable, are_rows, key_of, micros, resolution
+from ..digits import decimal, hexadecimal
+from .rows import ERROR, EXTENDED, GREATEST, REMOTE, Aside, Unreadable, are_rows, key_of, micros
 
 HEAD = "timestamp,arbitration_id,extended,remote,error,dlc,data"
 LINE = re.compile(r"([0-9]+(?:\.[0-9]+)?(?:[eE][-+]?[0-9]+)?),0x([0-9a-fA-F]+),([01]),([01]),([01]),([0-9]+),([A-Za-z0-9+/=]*)\s*")
 CHANNEL = ""
+LATEST = 1e12      # so many seconds no recording has
 MOST_KEPT = 1 << 16
+
+
+def micros_of_float(text):
+    """A text of seconds with an exponent, or with many digits, as whole microseconds."""
+    seconds = float(text)
+    if not seconds < LATEST:
+        raise ValueError("no time")
+    return round(seconds * 1_000_000)
 
 
 class Table:
@@ -32,21 +42,24 @@ class Table:
             raise Unreadable("this is no line of a CSV of python-can")
         stamp, identifier, extended, remote, error, size, data = found.groups()
         if error == "1":
-            return Aside(ERROR)
-        if extended == "1" or remote == "1":
-            return Aside(EXTENDED if extended == "1" else REMOTE, min(int(size), 8))
-        return self._time(stamp), CHANNEL, self._key(identifier), self._data(data, int(size))
+            return Aside(ERROR, self._time(stamp))
+        if remote == "1":
+            return Aside(REMOTE, self._time(stamp), CHANNEL, hexadecimal(identifier))
+        if extended == "1":
+            return Aside(EXTENDED, self._time(stamp), CHANNEL, hexadecimal(identifier), self._data(data, decimal(size)))
+        return self._time(stamp), CHANNEL, self._key(identifier), self._data(data, decimal(size))
 
     def _time(self, stamp):
         if "e" in stamp.lower() or len(stamp.partition(".")[2]) > 6:
-            return round(float(stamp) * 1_000_000)
+            return micros_of_float(stamp)
         return micros(stamp)
 
     @staticmethod
     def _key(identifier):
-        if int(identifier, 16) > GREATEST:
+        number = hexadecimal(identifier)
+        if number > GREATEST:
             raise Unreadable("this is no frame")
-        return key_of(int(identifier, 16))
+        return key_of(number)
 
     @staticmethod
     def _data(text, size):
@@ -72,11 +85,13 @@ class Table:
             known.clear()
         for line in lines:
             stamp, identifier, extended, remote, error, size, data = line.split(",")
-            if extended != "0" or remote != "0" or error != "0":
+            if extended != "0" or remote != "0" or error != "0" or not stamp.replace(".", "", 1).isdecimal():
                 return None
             if identifier not in keys:
-                keys[identifier] = self._key(identifier)
+                if identifier[:2] != "0x":
+                    return None
+                keys[identifier] = self._key(identifier[2:])
             if data not in known:
-                known[data] = self._data(data, int(size))
+                known[data] = self._data(data, decimal(size))
             rows.append((int(float(stamp) * 1e6 + 0.5), keys[identifier], known[data]))
         return rows

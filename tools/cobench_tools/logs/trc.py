@@ -1,6 +1,7 @@
 """Logs of PEAK's tools (TRC): 1.0 and 1.1, `  1)  0.1  Rx  0181  4  37 06 A8 61`, and 2.0 and 2.1 by their columns."""
 import re
 
+from ..digits import decimal, hexadecimal
 from .rows import ERROR, EXTENDED, FLEXIBLE, GREATEST, OTHER, REMOTE, Aside, Unreadable, are_rows, key_of, micros_of_millis, resolution
 
 VERSION = re.compile(r";\$FILEVERSION=([0-9.]+)")
@@ -10,6 +11,7 @@ VERSIONS = ("1.0", "1.1", "2.0", "2.1")
 OLD = {"1.0": "N,O,I,L,D", "1.1": "N,O,d,I,L,D", "2.0": "N,O,T,I,d,l,D", "2.1": "N,O,T,B,I,d,R,L,D"}
 KINDS = {"FD": FLEXIBLE, "FB": FLEXIBLE, "FE": FLEXIBLE, "BI": FLEXIBLE, "RR": REMOTE, "ER": ERROR, "EC": OTHER, "ST": OTHER, "EV": OTHER}
 HEX = frozenset("0123456789ABCDEF")
+SIZES = {str(size): size for size in range(9)}
 
 
 class Trc:
@@ -24,7 +26,7 @@ class Trc:
     def _take_columns(self, text):
         """Finds the places of the columns."""
         places = {column: place for place, column in enumerate(text.split(","))}
-        if not {"O", "I", "D"} <= set(places) or places["D"] != len(places) - 1:
+        if not {"O", "I", "D"} <= set(places) or not {"L", "l"} & set(places) or places["D"] != len(places) - 1:
             raise Unreadable("cobtool doesn't know these columns of TRC")
         self.places, self.width = places, len(places)
         self.time_place, self.id_place, self.data_place = places["O"], places["I"], places["D"]
@@ -60,7 +62,7 @@ class Trc:
     def _short(self, words):
         """A line with fewer columns than a frame: a warning, or what says that there was an error."""
         if len(words) > 2 and ("Error" in words or "Warng" in words or set(words) & {"ER", "ST", "EC", "EV"}):
-            return Aside(ERROR if "Error" in words or "ER" in words else OTHER)
+            return Aside(ERROR if "Error" in words or "ER" in words else OTHER, micros_of_millis(words[self.time_place]))
         raise Unreadable("this is no line of TRC")
 
     def _frame(self, words):
@@ -68,16 +70,22 @@ class Trc:
         time, identifier = micros_of_millis(words[self.time_place]), words[self.id_place]
         kind = words[self.kind_place] if self.kind_place is not None else words[2] if "d" in self.places else ""
         if kind in KINDS or kind in ("Error", "Warng"):
-            return Aside(KINDS.get(kind, ERROR if kind == "Error" else OTHER))
-        data, size = words[self.data_place:], int(words[self.size_place])
+            return self._other(KINDS.get(kind, ERROR if kind == "Error" else OTHER), time, identifier)
+        data, size = words[self.data_place:], decimal(words[self.size_place])
+        channel = words[self.bus_place] if self.bus_place is not None else "1"
         if data[:1] in (["RTR"], ["R"]):
-            return Aside(REMOTE, 0)
-        if len(identifier) == 8 or int(identifier, 16) > GREATEST:
-            return Aside(EXTENDED, min(size, 8))
+            return Aside(REMOTE, time, channel, hexadecimal(identifier))
         text = "".join(data[:size]).upper()
         if len(text) != 2 * min(size, 8) or set(text) - HEX:
             raise Unreadable("this is no line of TRC")
-        return time, words[self.bus_place] if self.bus_place is not None else "1", key_of(int(identifier, 16)), text
+        if len(identifier) == 8 or hexadecimal(identifier) > GREATEST:
+            return Aside(EXTENDED, time, channel, hexadecimal(identifier), text)
+        return time, channel, key_of(hexadecimal(identifier)), text
+
+    @staticmethod
+    def _other(kind, time, identifier):
+        """A line of a kind that the column of kinds says; errors and status have no identifier."""
+        return Aside(kind, time, None, hexadecimal(identifier) if kind in (REMOTE, FLEXIBLE) else None)
 
     def rows(self, text, channel):
         """The rows of whole lines, None where they aren't all of one shape."""
@@ -96,13 +104,16 @@ class Trc:
         for line in lines:
             words = line.split()
             stamp, identifier, data = words[time_place], words[id_place], words[first:]
-            if words[kind_place] not in kinds or stamp[-digits] != "." or len(data) != int(words[size_place]) or len(identifier) > 4:
+            ticks = stamp[:-digits] + stamp[1 - digits:]
+            if words[kind_place] not in kinds or stamp[-digits] != "." or SIZES.get(words[size_place]) != len(data):
+                return None
+            if len(identifier) > 4 or not ticks.isdecimal():
                 return None
             if bus is not None and words[bus] != channel:
                 return None
             if identifier not in keys:
-                keys[identifier] = key_of(int(identifier, 16))
-            rows.append((int(stamp[:-digits] + stamp[1 - digits:]) * scale, keys[identifier], "".join(data)))
+                keys[identifier] = key_of(hexadecimal(identifier))
+            rows.append((int(ticks) * scale, keys[identifier], "".join(data)))
         return rows
 
     def _plain_kind(self):

@@ -1,11 +1,12 @@
 /* What the server tells: items by name, each whole. */
 
 class Items {
-  /** `taken(changed, whole)` is called with the names of the items that are other, `lost()` where the server is gone. */
+  /** `taken(changed, whole)` is called with the names of the items that are other, `lost()` where the server is gone.
+      The feed asks for the word that the address of the page has. */
   constructor(taken, lost) {
     this.items = new Map();
     this.taken = taken;
-    this.source = new EventSource("feed");
+    this.source = new EventSource("feed" + location.search);
     this.source.addEventListener("message", event => this.take(JSON.parse(event.data)));
     this.source.addEventListener("error", lost);
   }

@@ -131,7 +131,7 @@ function pdoPart(values) {
 
 /** A file of a node: a button that saves it, and its text. */
 function filePart(title, path, name, text) {
-  const link = element("a", { class: "button", href: `files/${path}`, download: name }, "Save " + name);
+  const link = element("a", { class: "button", href: `files/${path}${location.search}`, download: name }, "Save " + name);
   const marked = text.querySelector("mark") ? { class: "marked" } : {};
   return element("div", { class: "file" }, element("details", marked, element("summary", {}, title), text), link);
 }

@@ -7,6 +7,7 @@ class Timeline {
     this.scale = new Scale();
     this.lanes = new Lanes();
     this.hidden = new Set();
+    this.at = null;                     // the moment at which the pointer is
     this.build();
     this.draw = onceAFrame(() => this.drawNow());
     this.onMove = () => {};
@@ -19,7 +20,7 @@ class Timeline {
     this.corner = element("div", { class: "corner" }, "time in ms");
     this.most = element("span", { class: "most" });
     this.least = element("span", { class: "least" }, "0");
-    this.foot = element("div", { class: "foot" }, element("b", {}, "frames in each 10 ms"), this.most, this.least);
+    this.foot = element("div", { class: "foot" }, element("b", {}, "bus load in each 10 ms"), this.most, this.least);
     this.canvas = element("canvas", { role: "img" });
     this.cursor = element("div", { class: "cursor", hidden: "" });
     this.sheet = element("div", { class: "sheet" }, this.canvas, this.cursor);
@@ -61,9 +62,15 @@ class Timeline {
 
   /** Shows the lanes whose name or number has a text. */
   search(text) {
-    this.lanes.take(this.trace, text);
-    this.bar.found(this.lanes.shown.length, this.trace.lanes.length);
+    const frames = this.lanes.take(this.trace, text, this.bar.signals.lanes()), shown = this.lanes.shown.filter(lane => !lane.signal).length;
+    this.bar.found(shown, this.trace.lanes.length, frames);
     this.layOut();
+  }
+
+  /** Goes to the first frame in view, or behind it, of those that were looked for. */
+  goToFound() {
+    const next = [this.scale.from, 0].map(from => this.trace.firstFound(from)).find(each => each !== null);
+    if (next !== undefined) this.goTo(tellFrame(this, next));
   }
 
   /** Places all by the size that the page gives. */
@@ -81,6 +88,7 @@ class Timeline {
   room() { return Math.max(0, this.height - AXIS - this.bars()); }
   scrolled() { return Math.max(0, this.scroller.scrollTop); }
   shows(kind) { return !this.hidden.has(kind); }
+  busy(step) { return this.trace.busyIn(step, kind => this.shows(kind)); }
   total(step) { return this.trace.counts.reduce((sum, each, kind) => sum + (this.shows(kind) ? each[step] : 0), 0); }
 
   drawNow() {
@@ -93,11 +101,12 @@ class Timeline {
     drawAxis(pen, this, ticks);
     drawBars(pen, this, this.height - this.bars());
     drawVeil(pen, this);
+    this.cursors.draw(pen);
     this.bar.follow();
   }
 
   showMost(most, floor, high) {
-    this.most.textContent = counted(most);
+    this.most.textContent = percent(most);
     this.most.style.top = floor - high + "px";
     this.least.style.top = floor + "px";
   }
@@ -124,6 +133,7 @@ class Timeline {
     const { x, y } = this.placeOf(event), told = findAt(this, x, y);
     this.cursor.style.transform = `translateX(${x}px)`;
     this.cursor.hidden = false;
+    this.at = told && (told.flag || told.frame !== undefined) ? told.time : this.scale.time(x);
     if (!told) { this.tip.hide(); return; }
     this.told = told;
     this.tip.show(told, event.clientX, event.clientY);
@@ -131,6 +141,7 @@ class Timeline {
   }
 
   forget() {
+    this.at = null;
     this.cursor.hidden = true;
     this.tip.hide();
   }
@@ -158,6 +169,7 @@ class Timeline {
   goTo(told) {
     const { scale } = this, lane = this.lanes.of(told.lane);
     this.told = told;
+    this.at = null;
     if (!lane) { this.bar.search.value = ""; this.search(""); this.goTo(told); return; }
     if (told.time < scale.from || told.time > scale.to) scale.move(told.time - scale.span / 2, told.time + scale.span / 2);
     const top = this.scrolled();
@@ -196,7 +208,8 @@ function laneLabel(view, lane) {
   const label = element("li", { style: `top: ${lane.top}px; height: ${lane.height}px`, title: `${lane.name} ${lane.title}` },
     element("b", {}, lane.name), element("span", { class: "number" }, title));
   if (lane.trouble) label.prepend(element("i", { class: "alarm of-run", role: "img", "aria-label": several(lane.trouble, "alarm") }, "!"));
-  if (lanes.compact) label.className = "compact";
+  if (lane.signal) label.className = "signal";
+  else if (lanes.compact) label.className = "compact";
   else for (const kind of lane.kinds) label.append(kindLabel(view, lane, kind));
   return label;
 }

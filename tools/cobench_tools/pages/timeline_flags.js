@@ -1,10 +1,10 @@
 /* Flags: what the manager notes, emergencies, and events of the scenario. */
 
 const FLAG_COLOURS = { configured: "well", lost: "warning", failed: "wrong", emergency: "wrong", recovered: "well", event: "event",
-  deviation: "wrong" };
+  deviation: "wrong", expected: "wrong" };
 const FLAG_SAYS = { configured: "noted by the manager", lost: "noted by the manager", failed: "noted by the manager",
   emergency: "emergency message", recovered: "emergency message", event: "event of the scenario",
-  deviation: "not as planned" };
+  deviation: "not as planned", expected: "as planned" };
 
 /** Draws the flags of a lane that are in view: plain ones first, so that trouble stands above them. */
 function drawFlags(pen, view, lane) {
@@ -63,8 +63,16 @@ function drawHead(pen, view, lane, { flag, at, label: words }, place) {
   if (isTrouble(flag)) { drawTrouble(pen, view, words, at, middle, place); return; }
   pen.beginPath();
   for (const [right, down] of flag.kind === "event" ? DIAMOND : PENNANT) pen.lineTo(at + right, middle + down);
-  pen.fill();
+  if (flag.kind === "expected") outline(pen, colour); else pen.fill();
   if (place) write(pen, words, place.left, middle + .5, colour, FLAG_SIZE);
+}
+
+/** The outline of a flag, of what is planned. */
+function outline(pen, colour) {
+  pen.closePath();
+  pen.strokeStyle = colour;
+  pen.lineWidth = 1.2;
+  pen.stroke();
 }
 const DIAMOND = [[0, -5], [5, 0], [0, 5], [-5, 0]], PENNANT = [[0, -4], [9, 0], [0, 4]], FLAG_SIZE = 10.5;
 

@@ -95,6 +95,7 @@ function keyActions(view, ask) {
     PageUp: pages(-1), PageDown: pages(1), Home: () => view.scrollTo(0), End: () => view.scrollTo(view.lanes.height),
     n: () => view.stepFlag(1), p: () => view.stepFlag(-1), ".": () => view.stepFrame(1), ",": () => view.stepFrame(-1),
     "/": ask, Escape: () => view.forget(),
+    a: () => view.cursors.put("A"), b: () => view.cursors.put("B"), c: () => view.cursors.set(null, null),
   };
 }
 

@@ -8,25 +8,31 @@ const MOST_FULL = 14;                 // more lanes than these have one row each
 class Lanes {
   constructor() { this.shown = []; this.compact = false; this.height = 0; }
 
-  /** Takes the lanes of a trace whose name or number has the text that is looked for. */
-  take(trace, wanted) {
-    const text = wanted.trim().toLowerCase();
+  /**
+   * Takes the lanes of a trace whose name or number has the text that is looked for; where none has, those with frames
+   * of that identifier or message. Behind them stand those of signals. Gives how many frames were found so.
+   */
+  take(trace, wanted, signals = []) {
+    const text = wanted.trim().toLowerCase(), all = trace.lanes.map((lane, number) => ({ ...lane, number }));
     const fits = lane => !text || lane.name.toLowerCase().includes(text) || lane.title.toLowerCase().endsWith(" " + text);
-    this.shown = trace.lanes.map((lane, number) => ({ ...lane, number })).filter(fits);
+    const frames = trace.look(all.some(fits) ? "" : text), has = lane => lane.kinds.some(kind => trace.row(lane.number, kind).frame.length);
+    this.shown = all.filter(frames ? has : fits).concat(signals);
     this.compact = this.shown.length > MOST_FULL;
+    return frames;
   }
 
   /** Places the lanes in a room of so many pixels: rows are as high as there is room for, within limits. */
   layOut(room) {
-    const rows = this.shown.reduce((sum, lane) => sum + this.rowsOf(lane), 0);
-    const fits = Math.floor((room - this.shown.length * (FLAGS + 2 * PAD + 1)) / Math.max(1, rows));
+    const lanes = this.shown.filter(lane => !lane.signal), left = room - SIGNAL * (this.shown.length - lanes.length);
+    const rows = lanes.reduce((sum, lane) => sum + this.rowsOf(lane), 0);
+    const fits = Math.floor((left - lanes.length * (FLAGS + 2 * PAD + 1)) / Math.max(1, rows));
     this.row = this.compact ? COMPACT_ROW : Math.min(30, Math.max(13, fits));
     this.flags = this.compact ? COMPACT_FLAGS : FLAGS;
     this.pad = this.compact ? COMPACT_PAD : PAD;
     this.height = 0;
     for (const lane of this.shown) {
       lane.top = this.height;
-      lane.height = this.flags + this.rowsOf(lane) * this.row + 2 * this.pad + 1;
+      lane.height = lane.signal ? (this.compact ? COMPACT_SIGNAL : SIGNAL) : this.flags + this.rowsOf(lane) * this.row + 2 * this.pad + 1;
       this.height += lane.height;
     }
   }

@@ -94,7 +94,7 @@ function drawLabel(pen, view, left, right, top, frame, name) {
 }
 
 /** The name of the colour of a kind. */
-const colourOf = kind => kind.toLowerCase();
+const colourOf = kind => kind.toLowerCase().replace(" ", "-");
 
 const fontOf = size => `${size}px system-ui, "Segoe UI", Roboto, "DejaVu Sans", sans-serif`;
 

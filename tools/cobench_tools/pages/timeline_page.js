@@ -37,6 +37,7 @@ function openPage() {
   document.getElementById("summary").textContent = summaryOf(content, timeline.trace);
   document.getElementById("unknown").hidden = content.script;
   goToAddress(timeline);
+  printWhole(timeline, () => content.title);
   keepAddress(timeline);
   addEventListener("hashchange", () => goToAddress(timeline));
   return timeline;

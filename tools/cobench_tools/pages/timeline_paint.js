@@ -41,13 +41,18 @@ function drawLanes(pen, view, ticks) {
     drawStates(pen, view, lane);
     pen.fillStyle = colours.grid;
     for (const at of ticks.at) pen.fillRect(Math.round(scale.x(at)), lane.top, 1, lane.height);
-    if (lanes.compact) drawCompactRow(pen, view, lane); else drawRows(pen, view, lane);
-    drawFresh(pen, view, lane);
-    drawFlags(pen, view, lane);
+    if (lane.signal) drawSignal(pen, view, lane); else drawFrames(pen, view, lane);
     pen.fillStyle = colours.line;
     pen.fillRect(0, lane.top + lane.height - 1, scale.width, 1);
   }
   pen.restore();
+}
+
+/** The marks of a lane, and its flags. */
+function drawFrames(pen, view, lane) {
+  if (view.lanes.compact) drawCompactRow(pen, view, lane); else drawRows(pen, view, lane);
+  drawFresh(pen, view, lane);
+  drawFlags(pen, view, lane);
 }
 
 /** The states of a node as bands behind its marks. */
@@ -57,9 +62,11 @@ function drawStates(pen, view, lane) {
     const next = n + 1 < lane.states.length ? lane.states[n + 1][0] : Math.min(trace.end, trace.known);
     const from = Math.max(scale.x(time), 0), to = Math.min(scale.x(next), scale.width);
     if (to <= from) return;
-    pen.fillStyle = colours[trace.content.stateNames[state]];
+    const name = trace.content.stateNames[state];
+    if (name === "unknown") return;
+    pen.fillStyle = colours[colourOf(name)];
     pen.fillRect(from, lane.top, to - from, lane.height - 1);
-    if (state === 0) hatch(pen, colours.hatch, from, lane.top, to - from, lane.height - 1);
+    if (["off", "not heard"].includes(name)) hatch(pen, colours.hatch, from, lane.top, to - from, lane.height - 1);
   });
 }
 
@@ -98,7 +105,7 @@ function barsInView(view) {
   const from = Math.max(0, Math.floor(scale.from / trace.step)), to = Math.min(trace.steps - 1, Math.floor(scale.to / trace.step));
   for (let step = from; step <= to; step++) {
     const left = Math.max(x(step * trace.step), 0), right = Math.min(x((step + 1) * trace.step), scale.right);
-    const total = view.total(step), last = bars[bars.length - 1];
+    const total = view.busy(step), last = bars[bars.length - 1];
     const shares = last && right - left < 1 && Math.floor(left) === Math.floor(last.left);
     if (!shares) bars.push({ step, left, right, total });
     else if (total > last.total) Object.assign(last, { step, total });
@@ -126,8 +133,8 @@ function drawBar(pen, view, bar, floor, unit) {
   const { trace } = view, gap = bar.right - bar.left > 4 ? 1 : 0;
   let y = floor;
   trace.kinds.forEach((kind, n) => {
-    if (!view.shows(n) || !trace.counts[n][bar.step]) return;
-    const high = trace.counts[n][bar.step] * unit;
+    if (!view.shows(n) || !trace.slots[n][bar.step]) return;
+    const high = 100 / trace.step * trace.slots[n][bar.step] * unit;
     pen.fillStyle = view.colours[colourOf(kind)];
     pen.fillRect(bar.left, y - high, Math.max(bar.right - bar.left - gap, 1), high);
     y -= high;

@@ -6,6 +6,7 @@ function findAt(view, x, y) {
   if (y >= bottom) return tellStep(view, scale.time(x));
   const lane = y < AXIS ? undefined : view.lanes.at(y - AXIS + view.scrolled());
   if (!lane) return null;
+  if (lane.signal) return tellSignal(view, lane, scale.time(x));
   const within = y - AXIS + view.scrolled();
   const flag = within < lane.top + view.lanes.flags ? nearestFlag(view, lane, x) : null;
   if (flag) return tellFlag(view, flag.flag, flag.others);
@@ -33,11 +34,15 @@ function nearestFrame(view, lane, x, y) {
 /** Behind a moment in words: that what stands there isn't of this run. */
 const ofBefore = (trace, time, kind) => trace.isOld(time, kind) ? " · of the save before" : "";
 
+/** Behind a frame in words: that the run beside this one has none like it at that time. */
+const ofOther = (trace, frame) => !trace.isBesidePlan || !trace.fresh.has(frame) ? ""
+  : trace.lanes[trace.sortOf(frame).lane].planned ? " · not recorded then" : " · not planned then";
+
 function tellFrame(view, frame) {
   const { trace } = view, sort = trace.sortOf(frame), kind = trace.kinds[sort.kind], said = trace.said(frame);
   return {
     time: trace.time[frame], lane: sort.lane, frame, colour: colourOf(kind),
-    head: `${shownTime(trace.time[frame])} · ${kind} · ${trace.lanes[sort.lane].said}${ofBefore(trace, trace.time[frame])}`,
+    head: `${shownTime(trace.time[frame])} · ${kind} · ${trace.lanes[sort.lane].said}${ofBefore(trace, trace.time[frame])}${ofOther(trace, frame)}`,
     words: said.subject, values: said.values,
     code: `${trace.identifier(frame)} [${sort.size}] ${spaced(trace.bytes(frame))}`,
   };
@@ -55,7 +60,7 @@ function tellFlag(view, flag, others = []) {
 function tellState(view, lane, time) {
   const state = view.trace.stateAt(lane.number, time);
   if (!state || time < 0 || time > view.trace.end) return null;
-  return { time, lane: lane.number, colour: state, values: [], code: "", head: shownTime(Math.round(time)), words: `${lane.said} ${state}` };
+  return { time, lane: lane.number, colour: colourOf(state), values: [], code: "", head: shownTime(Math.round(time)), words: `${lane.said} ${state}` };
 }
 
 function tellStep(view, time) {
@@ -64,7 +69,7 @@ function tellStep(view, time) {
   const parts = trace.kinds.map((kind, n) => [kind, n]).filter(([, n]) => view.shows(n) && trace.counts[n][step]);
   const span = `${axisLabel(step * trace.step, 1000)} to ${axisLabel((step + 1) * trace.step, 1000)} ms`;
   return { time, colour: "faint", head: span + ofBefore(trace, step * trace.step),
-    words: several(view.total(step), "frame"), values: parts.map(([kind, n]) => `${kind} ${counted(trace.counts[n][step])}`), code: "" };
+    words: `${percent(view.busy(step))} of the bus, ${several(view.total(step), "frame")}`, values: parts.map(([kind, n]) => `${kind} ${counted(trace.counts[n][step])}`), code: "" };
 }
 
 /** The box beside the pointer. */

@@ -3,10 +3,13 @@
 class Toolbar {
   constructor(view) {
     this.view = view;
-    this.search = element("input", { type: "search", placeholder: "node", size: "12", "aria-label": "search for a node by name or number" });
+    this.search = element("input", { type: "search", placeholder: "node, message, 181h", size: "16",
+      "aria-label": "search for a node, a message or an identifier" });
     this.count = element("span", { class: "soft", role: "status" });
     this.legend = element("div", { class: "legend", role: "group", "aria-label": "kinds of frames" });
     this.list = new FlagList(view);
+    this.signals = new SignalList(view);
+    this.cursors = view.cursors = new Cursors(view);
     this.states = new Set();
     this.element = element("div", { class: "tools" }, this.buttons(), this.legend);
     this.search.addEventListener("input", () => view.search(this.search.value));
@@ -19,13 +22,14 @@ class Toolbar {
     this.in = button("+", "zoom in, key +", () => view.zoom(.5));
     this.all = button("all", "show the whole run, key 0", () => view.showAll());
     return element("div", { class: "buttons", role: "toolbar", "aria-label": "timeline" },
-      this.search, this.count, this.list.element, this.out, this.in, this.all, helpBox());
+      this.search, this.count, this.list.element, this.signals.element, this.cursors.element, this.out, this.in, this.all, helpBox());
   }
 
   /** Enter and Escape give the keys back to the picture; Escape shows all lanes again. */
   leaveSearch(event) {
     if (event.key === "Escape") { this.search.value = ""; this.view.search(""); }
     if (event.key === "Escape" || event.key === "Enter") { this.view.scroller.focus(); event.preventDefault(); }
+    if (event.key === "Enter") this.view.goToFound();
   }
 
   take(trace) {
@@ -33,9 +37,11 @@ class Toolbar {
       .filter(each => each.there);
     if (trace.isWhole()) this.states.clear();
     for (const [, state] of trace.lanes.flatMap(lane => lane.states)) this.states.add(state);
-    const names = trace.content.stateNames.filter((_, state) => this.states.has(state));
-    this.legend.replaceChildren(...kinds.map(each => this.chip(each)), ...names.map(stateChip));
+    const names = trace.content.stateNames.filter((name, state) => this.states.has(state) && name !== "unknown");
+    const differs = trace.content.windows.some(each => each.other && each.other.length) ? ["differs"] : [];
+    this.legend.replaceChildren(...kinds.map(each => this.chip(each)), ...names.concat(differs).map(stateChip));
     this.list.take(trace);
+    this.signals.take(trace);
   }
 
   /** A kind of frames, by which it is hidden and shown. */
@@ -50,12 +56,12 @@ class Toolbar {
     return made;
   }
 
-  found(shown, all) { this.count.textContent = shown < all ? `${shown} of ${all}` : ""; }
+  found(shown, all, frames) { this.count.textContent = frames ? several(frames, "frame") : shown < all ? `${shown} of ${all}` : ""; }
   follow() { this.all.disabled = this.out.disabled = this.view.scale.isWhole(); }
 }
 
 const stateChip = name =>
-  element("span", { class: "chip state" }, element("i", { class: name, style: `background: var(--${name})` }), name);
+  element("span", { class: "chip state" }, element("i", { class: colourOf(name), style: `background: var(--${colourOf(name)})` }), name);
 
 function button(words, title, action) {
   const made = element("button", { type: "button", title, "aria-label": title.replace(/,.*/, "") }, words);
@@ -64,7 +70,8 @@ function button(words, title, action) {
 }
 
 const KEYS = [["+ −", "zoom"], ["0", "whole run"], ["← →", "move in time"], ["↑ ↓", "scroll"], ["Page ↑ ↓", "a page of lanes"],
-  ["n p", "next and previous event or alarm"], [". ,", "next and previous frame of the lane"], ["/", "search for a node"],
+  ["n p", "next and previous event or alarm"], [". ,", "next and previous frame of the lane"], ["/", "search for a node, a message or an identifier; Enter goes to its first frame"],
+  ["a b", "cursor A or B where the pointer is"], ["c", "cursors away"],
   ["Esc", "close"]];
 const MOUSE = [["wheel", "scrolls the lanes"], ["Ctrl + wheel", "zooms"], ["Shift + wheel", "moves in time"], ["drag", "moves"],
   ["double click", "zooms in"]];
@@ -106,7 +113,8 @@ class FlagList {
     const trouble = trace.flags.filter(isTrouble).length, summary = this.element.firstChild;
     this.trace = trace;
     this.element.hidden = !trace.flags.length;
-    summary.textContent = trouble ? several(trouble, "alarm") : several(trace.flags.length, "event");
+    const expected = trace.flags.filter(flag => flag.kind === "expected").length, behind = expected ? `, ${expected} as planned` : "";
+    summary.textContent = trouble ? several(trouble, "alarm") + behind : several(trace.flags.length, "event");
     summary.className = trouble ? "button of-run wrong" : "button of-run";
     if (this.element.open) this.fill();
   }

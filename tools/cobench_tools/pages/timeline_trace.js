@@ -50,8 +50,8 @@ class Trace {
     this.lanes = content.lanes.map(([key, name, title, planned]) => ({ key, name, title, planned: Boolean(planned),
       said: planned ? name + ", planned" : name, flags: [], states: content.states[key] || [] }));
     this.laneOf = new Map(this.lanes.map((lane, number) => [lane.key, number]));
-    this.sorts = content.sorts.map(([identifier, kind, lane, size, text]) =>
-      ({ identifier, kind, lane: this.laneOf.get(lane), size, text, slot: (47 + 8 * size) * content.bit }));
+    this.sorts = content.sorts.map(([identifier, kind, lane, size, text, bits]) =>
+      ({ identifier, kind, lane: this.laneOf.get(lane), size, text, slot: (bits || 47 + 8 * size) * content.bit }));
     this.takeFrames(content.windows);
     this.sortIntoRows();
     this.takeFlags(content);
@@ -63,12 +63,13 @@ class Trace {
     this.time = new Float64Array(this.count);
     this.sort = new Uint32Array(this.count);
     this.fresh = new Set();
+    this.isBesidePlan = windows.some(each => each.other);
     this.place = new Uint32Array(this.count);
     this.data = windows.map(each => each.data).join("");
     let frame = 0, place = 0;
     for (const each of windows) {
       let time = each.at;
-      for (const n of this.content.fresh && this.content.fresh.get(each) || []) this.fresh.add(frame + n);
+      for (const n of each.other || this.content.fresh && this.content.fresh.get(each) || []) this.fresh.add(frame + n);
       for (let i = 0; i < each.sort.length; i++, frame++) {
         this.time[frame] = time += each.time[i];
         this.sort[frame] = each.sort[i];
@@ -111,23 +112,60 @@ class Trace {
     }
   }
 
-  /** How many frames of each kind there are in each step of time. */
+  /** How many frames of each kind there are in each step of time, and for how long they have the bus. */
   countBy(step) {
     this.step = step;
     this.steps = Math.floor(Math.max(this.end, 0) / step) + 1;
     this.counts = this.kinds.map(() => new Uint32Array(this.steps));
+    this.slots = this.kinds.map(() => new Float64Array(this.steps));
     for (let i = 0; i < this.count; i++) {
       const sort = this.sorts[this.sort[i]];
-      if (!this.lanes[sort.lane].planned) this.counts[sort.kind][Math.min(this.steps - 1, Math.floor(this.time[i] / step))]++;
+      if (this.lanes[sort.lane].planned) continue;
+      this.counts[sort.kind][this.stepOf(this.time[i])]++;
+      this.fill(this.slots[sort.kind], Math.max(this.time[i] - sort.slot, 0), this.time[i]);
     }
   }
 
-  /** How many frames there are of a kind; those of planned lanes beside recorded ones count only where that is wanted. */
-  countOf(kind, planned = false) {
-    return this.lanes.reduce((sum, each, lane) => sum + (planned || !each.planned ? this.row(lane, kind).frame.length : 0), 0);
+  stepOf(time) { return Math.min(this.steps - 1, Math.max(0, Math.floor(time / this.step))); }
+
+  /** A frame has the bus from a moment to another. */
+  fill(slots, from, to) {
+    for (let at = this.stepOf(from); at <= this.stepOf(to); at++)
+      slots[at] += Math.max(0, Math.min(to, (at + 1) * this.step) - Math.max(from, at * this.step));
   }
 
-  row(lane, kind) { return this.rows[lane * this.kinds.length + kind]; }
+  /** How full the bus is in a step, in per cent, by the kinds that are shown. */
+  busyIn(step, shows) { return 100 / this.step * this.slots.reduce((sum, each, kind) => sum + (shows(kind) ? each[step] : 0), 0); }
+
+  /** How many frames there are of a kind; those of planned lanes beside recorded ones count only where that is wanted. */
+  countOf(kind, planned = false) {
+    return this.lanes.reduce((sum, each, lane) => sum + (planned || !each.planned ? this.rows[lane * this.kinds.length + kind].frame.length : 0), 0);
+  }
+
+  /** The frames of a kind in a lane, of those that are looked for. */
+  row(lane, kind) { return (this.found || this.rows)[lane * this.kinds.length + kind]; }
+
+  /** Looks for the frames whose identifier or message a text is, among all again where it is none; how many there are. */
+  look(text) {
+    const wanted = text.trim().toLowerCase(), number = wanted.replace(/^0x|h$/g, "").padStart(3, "0");
+    const has = sort => hexadecimal(sort.identifier, 3).toLowerCase() === number, are = wanted ? this.sorts.map(has) : [];
+    const says = sort => Boolean(wanted) && (typeof sort.text === "string" ? sort.text : sort.text[0]).toLowerCase().includes(wanted);
+    const fits = are.some(Boolean) ? are : this.sorts.map(says);
+    this.found = fits.some(Boolean) ? this.rows.map(row => this.part(row, fits)) : null;
+    return this.found ? this.found.reduce((sum, row) => sum + row.frame.length, 0) : 0;
+  }
+
+  /** The frames of a row whose sort fits. */
+  part(row, fits) {
+    const frame = row.frame.filter(each => fits[this.sort[each]]);
+    return { frame, time: Float64Array.from(frame, each => this.time[each]) };
+  }
+
+  /** The first frame from a moment on, of those that are looked for. */
+  firstFound(time) {
+    const next = (this.found || []).map(row => row.frame[firstAt(row.time, time)]).filter(each => each !== undefined);
+    return next.length ? Math.min(...next) : null;
+  }
   sortOf(frame) { return this.sorts[this.sort[frame]]; }
   slot(frame) { return this.sorts[this.sort[frame]].slot; }
   identifier(frame) { return hexadecimal(this.sortOf(frame).identifier, 3); }
@@ -164,3 +202,5 @@ class Trace {
 }
 
 const isTrouble = flag => ["emergency", "failed", "deviation"].includes(flag.kind);
+
+const percent = share => (share < 9.95 ? share.toFixed(1) : Math.round(share)) + " %";

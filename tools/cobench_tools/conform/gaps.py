@@ -1,0 +1,64 @@
+"""Times in which nothing of the network was recorded, though several senders had to be heard: the recorder, its clock, or the bus."""
+from operator import sub
+
+from ..logs.intake import Block
+from .causes import Spot
+from .plan import milliseconds
+
+SENDERS = 2
+NEVER = 1 << 62
+
+
+class Gaps:
+    """Looks for them.
+
+    least  the microseconds after which so many senders have to be heard again
+    last   the time and line of the last frame so far
+    """
+
+    def __init__(self, judge):
+        self.judge, self.last = judge, None
+        senders = sorted(self._longest(streams) for streams in self._senders())
+        self.least = senders[SENDERS - 1] if len(senders) >= SENDERS else NEVER
+
+    def _senders(self):
+        """What each sender sends by itself, the manager first."""
+        judge = self.judge
+        yield [judge.sync, judge.manager.heartbeat]
+        for node in judge.nodes.values():
+            yield [node.heartbeat] + [pdo for pdo in node.pdos.values() if not pdo.needs_sync]
+
+    @staticmethod
+    def _longest(streams):
+        """How long a sender is quiet at most."""
+        return min((stream.high for stream in streams if stream.comes_by_itself()), default=NEVER)
+
+    def parts(self, block):
+        """The parts of a block between which nothing was recorded for so long, nearly always all of it."""
+        times = [row[0] for row in block.rows]
+        before, self.last = self.last, Spot(times[-1], block.numbers[-1])
+        if max(map(sub, times[1:], times), default=0) <= self.least and (before is None or times[0] - before.time <= self.least):
+            return (block,)
+        return self._split(block, times, before)
+
+    def _split(self, block, times, before):
+        start = 0
+        for place, time in enumerate(times):
+            if before is not None and time - before.time > self.least:
+                if place > start:
+                    yield Block(block.rows[start:place], block.numbers[start:place])
+                self._judge(before, Spot(time, block.numbers[place]))
+                start = place
+            before = Spot(time, block.numbers[place])
+        yield Block(block.rows[start:], block.numbers[start:])
+
+    def _judge(self, before, after):
+        """Reports a gap where several senders had to be heard in it that weren't late before; all begins anew behind it."""
+        silent = sum(any(stream.is_late(after.time) and not stream.is_late(before.time) for stream in streams)
+                     for streams in self._senders())
+        if silent < SENDERS:
+            return
+        judge, long = self.judge, milliseconds(after.time - before.time)
+        judge.causes.tell("gap", ["bus"], ("bus",), f"nothing of the network was recorded for {long}, and {silent} senders had to be heard: "
+                          "the recorder or its clock, or all of the bus", after.time, after.line, [(before.line, "the last frame before")])
+        judge.begin_anew(after.time)

@@ -1,0 +1,65 @@
+"""Boots that aren't over at the end of a log, and those that never began."""
+from ..logs.rows import key_of
+from .plan import milliseconds
+from .startup import LONG
+
+HEARTBEATS = 0x700
+
+# Within these microseconds two times are the same.
+SAME = 50
+
+
+class Unfinished:
+    """What is left to be done for a node at the end of a log."""
+
+    def __init__(self, judge):
+        self.judge, self.plan = judge, judge.plan
+
+    def finish(self):
+        begins = self._begins_with_the_run()
+        for node in self.judge.nodes.values():
+            if node.first is None:
+                continue
+            was_up = node.was_operational() and not node.is_started     # it runs, and nothing in the log started it
+            if begins and node.first_boot is None and not was_up and (key_of(HEARTBEATS + node.number), "00") in self.plan.landmarks:
+                node.tell("never-boots", [node.number], "it is heard, and no boot-up message of it is there", *node.first)
+            elif node.reset_at and self._is_long(node.reset_at):
+                node.tell("never-boots", [node.number], f"it is reset, and no boot-up message of it comes in {self._left(node.reset_at)}, "
+                          "to the end", *node.reset_at)
+            elif node.last_boot and self._is_awaited(node):
+                self._stops(node)
+
+    def _begins_with_the_run(self):
+        """Whether the first frame of the log is that of the planned run."""
+        alignment = self.judge.causes.alignment
+        return (bool(alignment) and bool(alignment.offsets)
+                and abs(self.judge.begin - alignment.offset - self.plan.frames[0][0]) <= SAME)
+
+    def _left(self, spot):
+        return milliseconds(self.judge.end - spot.time)
+
+    def _is_long(self, spot):
+        """Whether the log goes on for long behind a place."""
+        return self.judge.end - spot.time > LONG
+
+    def _is_awaited(self, node):
+        """Whether the boot of a node has to go on: the planned run starts it, the manager is there, and nobody boots any more."""
+        number, startup, since = node.number, self.judge.startup, node.last_boot.time
+        is_planned = any(("000#", f"01{target:02X}") in self.plan.landmarks for target in (number, 0))
+        heard = [self.judge.sync.last, self.judge.manager.heartbeat.last]
+        is_there = any(time is not None and time > since for time in heard) or not (self.plan.sync or self.plan.manager_heartbeat)
+        return is_planned and is_there and self.judge.end - max(startup.latest, since) > LONG
+
+    def _stops(self, node):
+        """Reports the boot of a node behind which nothing comes."""
+        boot, writes = node.boot, len(node.boot.writes)
+        if boot.place is None or boot.started or node.is_started or node.talk.is_left:
+            return
+        left = self._left(node.last_boot)
+        if boot.place == 0 and writes:
+            text = f"it boots, and nothing is written in {left}, to the end; its boot has {writes} writes"
+        elif boot.place < writes:
+            text = f"its boot stops behind {boot.place} of {writes} writes: no other comes in {left}, to the end"
+        else:
+            text = f"it boots, and isn't started in {left}, to the end"
+        node.tell("boot-stops", [node.number], text, *node.last_boot)

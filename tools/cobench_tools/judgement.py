@@ -1,0 +1,33 @@
+"""All that is wrong with a script: by its commands, its diagnostics and its boots, and by what its run shows.
+
+`of` is what each command counts; `of_check` is what `check` and `export` say besides.
+"""
+from . import findings, sheet_faults, slips, taken_twice, trace
+from .evidence import Evidence
+from .planned_run import PlannedRun
+from .run_findings import RunFindings, why_not_over
+
+
+def of(answered):
+    """The findings of a session that was asked `Evidence.QUERIES`."""
+    return of_evidence(Evidence(answered))
+
+
+def of_evidence(evidence):
+    found = findings.refused(evidence.answered) + findings.diagnosed(evidence) + findings.unused_values(evidence)
+    return found + of_run(evidence)
+
+
+def of_check(answered):
+    """What `check` and `export` say: slips of the script and faults of the data sheets too."""
+    evidence = Evidence(answered)
+    return of_evidence(evidence) + slips.of(evidence) + taken_twice.of(evidence) + sheet_faults.of(evidence)
+
+
+def of_run(evidence):
+    """What is wrong with the boots, and with all that comes behind them."""
+    lines = trace.of_answer(evidence.answered.lines("trace"))
+    run = PlannedRun(evidence, lines)
+    booted = findings.of_boots(evidence, run.boots, lambda nodes: findings.last_said(evidence, lines, nodes),
+                               lambda node, boot: why_not_over(run, node, boot))
+    return booted + RunFindings(evidence, run, booted).all()

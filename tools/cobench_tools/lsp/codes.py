@@ -1,0 +1,101 @@
+"""What the codes of diagnostics mean on a machine, and what its builder does about them (docs/rules/diagnostics.md)."""
+
+# By code: what it means, and what to do. E02 has two, of a value and of a default.
+MEANINGS = {
+    "E01": (
+        "The device has no such entry, and would abort the write with 06020000h or 06090011h. Either the index is "
+        "wrong, or the EDS is of another device or firmware.",
+        "Look the index and sub-index up in the manual of the device; take in the EDS of the firmware that it has."),
+    "E16": (
+        "The entry is of a type that cobench doesn't model, as REAL32, and so the value isn't written. Where the EDS "
+        "itself gives it, its line stays in the DCF, but the concise DCF hasn't got it.",
+        "Take the parameter away, and set it with the vendor's tool or from the control program."),
+    "E04": (
+        "The device lets nobody write the entry: it would abort with 06010002h. Often a value that it measures or "
+        "counts was taken for one that it is set to.",
+        "Take the parameter away, or name the entry that is meant. Where the EDS itself gives the value, the EDS is "
+        "wrong: the diagnostic goes when that line does."),
+    "E02": (
+        "The text is no value of the entry's type: too large a number, a letter too many, a formula that fits at "
+        "another node only. The device keeps what it has.",
+        "Write the value as the type has it; the EDS says which type, and mostly in which unit."),
+    "E02 default": (
+        "The EDS says nothing usable of the value with which the device starts. It is taken as 0 or as empty text "
+        "here, and the device may start with another.",
+        "Ask the vendor for a corrected EDS, or mend the line; set the entry by a parameter where its value matters."),
+    "E03": (
+        "The value is beyond what the vendor allows: the device would abort with 06090031h or 06090032h, and a "
+        "setting as a speed or a current isn't the one that was meant.",
+        "Choose a value within the limits; if it is right, the EDS is of a smaller device."),
+    "E05": (
+        "The sender can't send this message: it has no such TPDO, its mapping can't be written or has too few places, "
+        "or it has no inhibit time, event timer or SYNC start value to set.",
+        "Use another TPDO of the node, fewer sources, or 0 for INHIBIT, EVENT or the SYNC start value."),
+    "E06": (
+        "Two messages would be sent by the same TPDO; only the first of them by name that is clean is.",
+        "Give the other one another TPDO, or make one message of both."),
+    "E07": (
+        "The values don't fit into the 8 bytes of one frame.",
+        "Make two messages of it."),
+    "E08": (
+        "The device can't put this value into a PDO, or take it from one: it would abort the mapping with 06040041h. "
+        "Or a node is to take a value from itself.",
+        "Look up in the manual which entries can be mapped; read and write others by SDO."),
+    "E09": (
+        "The receiver would read its value from bits that hold another, or none.",
+        "Let the sink name an entry as wide as its source, at the source's position."),
+    "E10": (
+        "The receiver has no RPDO left for this message, or none with as many places, or its mapping is read only (a "
+        "device with a fixed mapping): what it should act on would never arrive.",
+        "Send it several values in one message, or let another node take some of them."),
+    "E11": (
+        "The receiver has to skip bits that are for others, and can't: its EDS allows no dummy of that width.",
+        "Give it a sink for these bits too, or send the values for each receiver in a message of their own."),
+    "E12": (
+        "The identifier is that of another message or another service: two senders of one identifier disturb each "
+        "other, and a PDO on one of NMT, SDO or heartbeat is taken for a command or for a sign of life.",
+        "Set COB to 0, so that the plan finds one, or choose one from 181h on that is free."),
+    "E13": (
+        "No identifier is left to give to this message.",
+        "Join messages, or give some an explicit identifier that no other has."),
+    "E14": (
+        "CiA 301 reserves transmission types 241 to 251: what a device does with one is its own affair.",
+        "Use 0 to 240 for messages at SYNC, 254 or 255 for those at events."),
+    "E15": (
+        "Two TPDOs send frames of one identifier. Receivers can't tell them apart, and where both start at once with "
+        "other bytes, the bus has errors that can switch nodes off. Mostly two devices come with the same fixed "
+        "identifier in their defaults.",
+        "Send a message by one of these TPDOs, so that the plan writes its identifier; where one of them sends a "
+        "message with an explicit one, give it another."),
+    "W17": (
+        "The TPDO is sent where somebody asks for it by a remote frame. Nothing in this project does, and CiA advises "
+        "against remote frames.",
+        "Use 254 or 255, or a type at SYNC."),
+    "W18": (
+        "The message waits for a SYNC, and the manager sends none, so that it is never sent.",
+        "Give manager a SYNC_US, or the message the type 254 or 255. Where another device of the machine sends SYNC, "
+        "all is well."),
+    "W19": (
+        "The watch over another node is of no use: one that is never heard isn't missed, and one that is heard too "
+        "seldom is reported as lost while it works, and the machine may stop.",
+        "Give the watched node a producer time (1017h) well below the consumer's time, or set the consumer to 0 where "
+        "the node is gone."),
+    "W20": (
+        "A line of the EDS isn't used: it is misspelled, gives a key for the second time (the first one counts), or "
+        "is a CompactPDO that isn't modelled. What it should say is lost.",
+        "Look at the line; correct it, or ask the vendor."),
+    "W21": (
+        "The node expects SYNC messages whose counter ends at another number than that of this network, or a counter "
+        "where there is none, or none where there is one. A device that checks the length of SYNC says so in an "
+        "emergency object, and its TPDOs with a SYNC start value may start at another SYNC than was meant.",
+        "Set 1019h:00 of the node by a parameter to the N of sync-counter, or choose that N for the network."),
+    "W22": (
+        "The TPDO waits for a SYNC with a number that none has, and so is never sent by a device that goes by the "
+        "counter.",
+        "Give start a number of at most the N of sync-counter, or that N a higher one."),
+}
+
+
+def meaning_of(code, is_default=False):
+    """What a code means and what to do, None where it is none of these."""
+    return MEANINGS.get(f"{code} default" if is_default else code)

@@ -1,0 +1,138 @@
+"""The rules that the tools repeat, held to cobench: what each module says of commands, numbers, values, lines and messages.
+
+Each session asks cobench of many cases at once; the replies are kept, as those of the other tests.
+"""
+import re
+
+from helper import put, recorded
+from odd_scripts import odd_script
+
+from cobench_tools import concise, forms, ini, limits, script, tool, values
+from cobench_tools import session as sessions
+from cobench_tools.evidence import Evidence
+from cobench_tools.project import Project
+
+# A right word of each kind, those at its limits and beyond, and words of other forms.
+WORDS = {
+    "VERSION": ("1", "2", "0", "3"), "RATE": ("500", "10", "0500", "9", "1000", "1001"), "US": ("0", "10000000", "10000001", "0000000005"),
+    "ID": ("5", "1", "127", "128", "0"), "SYNC_US": ("0", "1000", "999", "1", "10000000", "10000001"), "HB_MS": ("0", "65535", "65536"),
+    "TIMEOUT_MS": ("1", "0", "65535", "65536"), "COUNTER": ("0", "1", "2", "240", "241"), "NAME": ("d", "x" * 32, "x" * 33, "a-b"),
+    "EDS": ("d", "none"), "MESSAGE": ("m", "none"), "NEED": ("mandatory", "optional", "Optional"), "TPDO": ("1", "512", "513", "0"),
+    "TYPE": ("0", "255", "256"), "INHIBIT": ("0", "65535", "65536"), "EVENT": ("0", "65535", "65536"),
+    "COB": ("0", "7FF", "800", "7ff", "0185", "FFF"), "START": ("0", "240", "241"), "POS": ("1", "64", "65", "0"),
+    "INDEX": ("2000", "13FF", "1400", "1bff", "1C00", "0x17", "1017h", "12345"), "SUB": ("0", "FF", "100", "g"),
+    "TEXT": ("1", "a b", "x" * 4000, "x" * 4001), "K": ("1", "10000", "10001", "0"), "TIME": ("0", "10000000", "10000001"),
+    "CMD": ("1", "2", "128", "129", "130", "3", "0"), "TO": ("0", "5", "128"), "ON_OFF": ("on", "off", "ON"), "LINES": ("0", "65537"),
+    "set": ("set", "Set"), "power": ("power", "pow"), "nmt": ("nmt", ""),
+}
+ODD = ("-1", "+1", "1_0", "²", "0x5", "5h", "99999999999", "1e3", "#", "<x", ".")
+# What would take away what the others name, ask for much, or isn't for cobench: comments, and files that are taken in.
+LEFT_OUT = re.compile("(drop-(eds d|node 5|message m)|version [12]|diag|trace|project|c?dcf 5|eds d 0)|eds .* <.*|#.*")
+SHEET = b"eds d 4\n[1017]\nDataType=6\n[2000]\nDataType=7\n"
+
+
+def commands_of_all_forms():
+    """Commands that are right, and ones in which one word is another, is missing, or is one too many."""
+    for name, form in [*forms.FORMS.items(), *(("event", each) for each in forms.EVENTS.values())]:
+        kinds = form.split()
+        right = [WORDS[kind][0] for kind in kinds]
+        yield [name, *right]
+        yield [name, *right, "more"]
+        for place, kind in enumerate(kinds):
+            yield [name, *right[:place]]
+            for word in (*WORDS[kind][1:], *ODD):
+                yield [name, *right[:place], word, *right[place + 1:]]
+    for name in ("Bitrate", "bitrates", "help", "[1017]", "a=b", "//", ";"):
+        yield [name, "500"]
+
+
+def text_of_all_forms():
+    """The script of these, in which each command finds what it names, and none takes lines."""
+    made = SHEET + b"node 5 pump d\nmessage m 5 1 1 0 0 0\n"
+    lines = map(" ".join, commands_of_all_forms())
+    return made + "".join(f"{line}\n" for line in lines if not LEFT_OUT.fullmatch(line)).encode()
+
+
+def answered(text):
+    """The commands of a script, each with cobench's reply."""
+    put("net.txt", text)
+    return sessions.run("net.txt", recorded()).pairs
+
+
+def test_the_forms_are_those_of_cobench():
+    """forms.py: a command is refused with 2 Syntax where bad_syntax says why, and there alone."""
+    pairs = answered(text_of_all_forms())
+    assert len(pairs) > 500
+    wrong = [(tool.shown(command.line)[:80], reply.refused, forms.bad_syntax(command)) for command, reply in pairs
+             if (reply.refused == "2 Syntax") != (forms.bad_syntax(command) is not None)]
+    assert not wrong, wrong[:5]
+    assert sum(reply.refused == "2 Syntax" for _, reply in pairs) > 200
+
+
+def test_the_limits_are_those_of_cobench():
+    """limits.py: a command of the right form is refused with 3 Range where out_of_range says why, and there alone."""
+    pairs, project, wrong, count = answered(text_of_all_forms()), Project(), [], 0
+    for command, reply in pairs:
+        if reply.refused != "2 Syntax":
+            why = limits.out_of_range(command, project)
+            wrong += [(tool.shown(command.line), reply.refused, why)] if (reply.refused == "3 Range") != (why is not None) else []
+            count += why is not None
+        if reply.is_accepted():
+            project.take(command)
+    assert not wrong and count > 30, (count, wrong[:5])
+
+
+TEXTS = ("", "0", "1", "2", "-1", "-0", "127", "128", "255", "256", "0x7F", "0x80", "0xFF", "0x100", "017", "08", "-017", "0xffff", "65536", "-32768",
+         "-32769", "0xFFFFFFFF", "4294967296", "0x8000000000000000", "-9223372036854775808", "-9223372036854775809", "18446744073709551615",
+         "18446744073709551616", "9" * 40, "0" * 60 + "7", "$NODEID", "$nodeid+1", "1 + $NODEID", "$NODEID+0x80", "$NODEID+-1", "$NODEID + $NODEID",
+         "$NODEID+250", "-$NODEID", "1_0", "+5", "0x", "1 2", "5h", "TRUE", "1e2", "1.0", "00 11", "0011", "001", "aF", "text with blanks")
+KINDS = (1, 2, 3, 4, 0x15, 5, 6, 7, 0x1B, 9, 0x0A, 0x0F, 8)
+
+
+def test_values_are_those_of_cobench():
+    """values.py and device.py: the bytes that the concise DCF has of each text that is a value of its type, and no others."""
+    cases = [(0x2000 + place, kind, text) for place, (kind, text) in enumerate((kind, text) for kind in KINDS for text in TEXTS if text)]
+    sheet = "".join(f"[{index:04X}]\nDataType={kind:#x}\nAccessType=rw\n" for index, kind, _ in cases).encode()
+    text = b"eds d %d\n%snode 5 pump d\n" % (sheet.count(b"\n"), sheet)
+    text += "".join(f"param 5 {index:04X} 0 {value}\n" for index, _, value in cases).encode()
+    put("net.txt", text)
+    made = sessions.run("net.txt", recorded(), ("cdcf", "diag"))
+    assert all(reply.is_accepted() for _, reply in made.pairs)
+    written = {key[0]: data for key, data in concise.values_of(made.lines("cdcf", 5)).items() if key[1] == 0 and key[0] >= 0x2000}
+    wrong = []
+    for index, kind, value in cases:
+        ours = values.data_of(kind, value, 5) if kind in values.MODELLED else None
+        wrong += [(hex(kind), value, ours, written.get(index))] if ours != written.get(index) else []
+    assert not wrong and len(written) > 100, (len(written), wrong[:8])
+
+
+LINES = (b"", b";x", b"[a]", b"[a] behind", b"[]", b"[ ] = 5", b"[=x", b"x=1", b"X = 2", b"=3", b" = 4", b"key", b"[b", b"[b]\r", b"x=1\r", b"\t[A]\t",
+         b"x=", b"x=2", b"CompactPDO=0", b"compactpdo=0x0", b"CompactPDO=1", b"[c]", b"CompactPDO=x", b"[d]", b"COMPACTPDO=", b"[e]", b"CompactPDO=-00", b"[h]", b"CompactPDO=0X00", b"[i]", b"CompactPDO=0x",
+         b"[f]", b"y=1;2", b"\xb2=\xb2", b"Y=3", b"]", b"[\xe4]", b"[g]=5", b"[x]y]=3")
+
+
+def test_lines_that_are_not_used_are_those_of_cobench():
+    """ini.py: `diag` warns of the lines of data sheets of which unused_lines says why."""
+    texts = {"a": LINES, "b": (b"\xef\xbb\xbf[a]",) + LINES, "c": LINES[7:] + LINES[:7], "d": LINES + LINES}
+    put("net.txt", b"".join(script.block_of(name.encode(), [line.rstrip(b"\r") for line in lines]) for name, lines in texts.items()))
+    made = sessions.run("net.txt", recorded(), ("diag",))
+    ours = [f"W20 eds {name} {number}" for name, lines in sorted(made.project.texts.items()) for number in sorted(ini.unused_lines(lines))]
+    assert [tool.shown(line) for line in made.lines("diag")] == ours and len(ours) > 20, ours
+
+
+def test_faults_of_messages_are_those_of_cobench():
+    """plan.py: `diag` has the faults of messages that the plan finds, in generated networks of which a third is damaged."""
+    count = 0
+    for seed in range(1, 40, 3):
+        put("net.txt", b"\n".join(line for line in odd_script(seed).split(b"\n") if not re.match(b"(trace|c?dcf|project|diag|horizon)", line)))
+        try:
+            made = sessions.run("net.txt", recorded(), ("diag",))
+        except tool.Fault as fault:
+            assert "the script ends" in str(fault), (seed, fault)
+            continue
+        told = sorted(tool.shown(line) for line in made.lines("diag") if re.match(b"E.. message", line))
+        planned = Evidence(made).plan.messages
+        ours = sorted({f"{fault.code} message {name}" for name, each in planned.items() for fault in each.faults})
+        assert ours == told, (seed, ours[:5], told[:5])
+        count += len(told)
+    assert count > 5, count
