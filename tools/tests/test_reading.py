@@ -6,7 +6,7 @@ import sys
 import threading
 import time
 
-from helper import COBTOOL, is_fine, is_refused, put, recorded, run
+from helper import COBTOOL, TOOLS, is_fine, is_refused, put, recorded, run
 
 from cobench_tools import device, digits
 
@@ -173,7 +173,6 @@ def test_within_holds_for_data_sheets_and_for_each_command():
 
 def test_where_ci_is_set_a_script_takes_in_files_of_its_own_folder():
     project()
-    before = os.environ.pop("CI", None)
     try:
         for value, is_ci in (("true", True), ("1", True), ("", False), ("false", False)):
             os.environ["CI"] = value
@@ -186,7 +185,13 @@ def test_where_ci_is_set_a_script_takes_in_files_of_its_own_folder():
             assert run("expand", "--within", "all", "all/net/shared_net.txt")[0] == 0
     finally:
         os.environ.pop("CI", None)
-        os.environ.update({"CI": before} if before is not None else {})
+
+
+def test_the_tests_are_the_same_where_ci_is_set():
+    """Those of this subject have scripts with data sheets of another folder."""
+    done = subprocess.run([sys.executable, os.path.join(TOOLS, "test"), "planned_run"],
+                          env={**os.environ, "CI": "true"}, stdout=subprocess.PIPE)
+    assert done.returncode == 0 and done.stdout.endswith(b" passed, 0 failed\n"), done.stdout.decode()
 
 
 def test_a_revision_is_no_option_of_git():
