@@ -3,6 +3,7 @@ import re
 from collections import Counter
 
 import conform_judge
+import simulated_faults
 import simulated_judge
 from helper import example, in_parallel, put, real, recorded, run
 from networks import Dice
@@ -107,6 +108,32 @@ def test_a_log_that_begins_with_a_boot_is_of_power_on_only_where_each_node_boots
     for node, codes in ((1, []), (4, ["never-seen"])):
         others = [frame for frame in frames if frame[1] not in (0x700 + node, 0x600 + node, 0x580 + node)]
         assert [code for code, _, _ in conform_judge.conform(plan, others)] == codes, node
+
+
+def test_a_log_that_begins_in_the_midst_of_a_start_of_another_order_misses_no_boot():
+    """Node 4 boots ahead of node 1, with which the log begins as if it were the planned run.
+
+    Where 3 comes before 2, as it isn't planned, 4 may have been up too; with a heartbeat it is heard at another time than planned.
+    """
+    for beat, order in ((0, (1, 3, 2)), (20, (1, 3, 2)), (20, (1, 2, 3))):
+        nodes = "".join(f"node {node} n{node} d\nneed {node} mandatory\nparam {node} 1017 0 {beat if node == 4 else 0}\n"
+                        for node in (1, 2, 3, 4))
+        text = f"version 2\nmanager 127 10000 0 500\neds d 3\n[1017]\nDataType=6\nAccessType=rw\n{nodes}horizon 400000\n".encode()
+        put("net.txt", text + b"trace\n")
+        put("other.txt", simulated_faults.booting_later(text, dict(zip(order, (2000, 3000, 4000)))) + b"trace\n")
+        plan, _ = conform_judge.plan_of("net.txt", recorded())
+        _, frames = conform_judge.plan_of("other.txt", recorded())
+        start = next(place for place, frame in enumerate(frames) if frame[1:] == (0x701, b"\0"))
+        assert 0x584 in {identifier for _, identifier, _ in frames[:start]}
+        assert conform_judge.conform(plan, frames[start:]) == [], (beat, order)
+
+
+def test_a_node_that_boots_without_a_boot_up_message_is_reported():
+    """The second axis does so, in a recording that begins with the planned run: at its first frame behind it, an answer."""
+    lines = without(axes(), " 702#00")
+    found, _, _ = told(lines, example("servo_axes.txt"))
+    found = [row for row in found if row.endswith("[never-boots]")]
+    is_alone(found, place(lines, " 582#") + 1, "never-boots", "node 2 y_axis: it is heard, and no boot-up message of it is there (at ")
 
 
 def test_a_first_heartbeat_may_have_waited_for_a_start_before_the_log():

@@ -45,6 +45,7 @@ class Judge:
     nodes    the planned nodes, by number
     is_of_plan  whether it is the planned run that is judged
     begin, end, last_line  when the log begins and ends, and its last line
+    opening  the key and the bytes of its first frame
     startup  how far the machine is with its start
     absences what has to come by itself
     """
@@ -52,7 +53,7 @@ class Judge:
     def __init__(self, plan, tolerance, causes, window=None, is_exact=False):
         self.plan, self.tolerance, self.causes, self.window, self.is_exact = plan, tolerance, causes, window, is_exact
         self.is_of_plan = causes.alignment is None
-        self.begin = self.end = None
+        self.begin = self.end = self.opening = None
         self.last_line, self.active_since, self.is_power_on = 0, None, None
         self.bus, self.sync = Bus(plan.bit if self.is_of_plan else plan.bus_bit, tolerance), Sync(self)
         self.startup, self.places = Startup(plan), Places()
@@ -90,7 +91,7 @@ class Judge:
             self.bus.take(block)
             return
         if self.begin is None:
-            self.begin = block.rows[0][0]
+            self.begin, *self.opening = block.rows[0]
             self.startup.go_on(self.begin)
         self.bus.take(block)
         self.places.take(block)
@@ -122,9 +123,13 @@ class Judge:
         return since, after, "" if since is not None else "the start of the machine isn't over"
 
     def has_all_boots(self):
-        """Whether the log has the start of the machine: it begins with a boot-up message, and so does each node."""
+        """Whether the log has the start of the machine: it begins with a boot-up message, and so does each node, as planned.
+
+        Where they boot in another order than planned, others may have booted before the log.
+        """
         heard = [node for node in self.nodes.values() if node.first is not None]
-        return bool(self.is_power_on) and all(node.first_boot and node.first_boot.time <= node.first.time for node in heard)
+        has_each = all(node.first_boot and node.first_boot.time <= node.first.time for node in heard)
+        return bool(self.is_power_on) and has_each and not self.startup.is_reordered
 
     def may_not_be_started(self):
         """Whether a mandatory node isn't there, and nothing shows that the network was started without it."""

@@ -19,6 +19,7 @@ class Startup:
     last     when a node booted or was configured last before the start was over, `begin` where none was
     is_seen  whether any node booted or was configured
     is_slow  whether a node came later than in the planned run, at its `nth` time: the first one where the log has power-on
+    is_reordered  whether nodes boot in another order than in the planned run; `booted` is when the last one does so there
     latest   when a node booted or was configured last of all
     ends     when the start was over, by how long nothing of it came, BRIEF or LONG; none where it isn't over
     """
@@ -26,6 +27,7 @@ class Startup:
     def __init__(self, plan):
         self.landmarks, self.begin, self.last, self.anchor, self.nth = plan.landmarks, None, None, None, 0
         self.is_seen, self.is_slow, self.ends, self.known, self.latest = False, False, {}, set(), 0
+        self.is_reordered, self.booted = False, 0
 
     def go_on(self, time):
         """Up to a time nothing of a start came but what was said before."""
@@ -53,6 +55,9 @@ class Startup:
             self.is_slow |= data in RESETS_OF_ALL and not self.is_seen
             return
         self.known.add((key, data))
+        if key != "000#":
+            self.is_reordered |= planned[0] < self.booted
+            self.booted = planned[0]
         if self.anchor is None:
             self.anchor, self.nth = (time, planned[0]), (-1 if key == "000#" else 0)
         elapsed = planned[self.nth] - self.anchor[1]

@@ -3,7 +3,7 @@ from ..logs.rows import key_of
 from .plan import milliseconds
 from .startup import LONG
 
-HEARTBEATS = 0x700
+HEARTBEATS, ANSWERS = 0x700, 0x580
 
 # Within these microseconds two times are the same.
 SAME = 50
@@ -21,7 +21,7 @@ class Unfinished:
             if node.first is None:
                 continue
             was_up = node.was_operational() and not node.is_started     # it runs, and nothing in the log started it
-            if begins and node.first_boot is None and not was_up and (key_of(HEARTBEATS + node.number), "00") in self.plan.landmarks:
+            if begins and node.first_boot is None and not was_up and self._comes_as_planned(node):
                 node.tell("never-boots", [node.number], "it is heard, and no boot-up message of it is there", *node.first)
             elif node.reset_at and self._is_long(node.reset_at):
                 node.tell("never-boots", [node.number], f"it is reset, and no boot-up message of it comes in {self._left(node.reset_at)}, "
@@ -30,10 +30,22 @@ class Unfinished:
                 self._stops(node)
 
     def _begins_with_the_run(self):
-        """Whether the first frame of the log is that of the planned run."""
-        alignment = self.judge.causes.alignment
-        return (bool(alignment) and bool(alignment.offsets)
-                and abs(self.judge.begin - alignment.offset - self.plan.frames[0][0]) <= SAME)
+        """Whether the first frame of the log is that of the planned run, and nodes boot in its order."""
+        judge, alignment = self.judge, self.judge.causes.alignment
+        if not (alignment and alignment.offsets) or judge.startup.is_reordered:
+            return False
+        begin, *opening = self.plan.frames[0]
+        return judge.opening == opening and abs(judge.begin - alignment.offset - begin) <= SAME
+
+    def _comes_as_planned(self, node):
+        """Whether a node is heard first when it is heard behind its boot-up message in the planned run: it wasn't up before the log."""
+        beats, answers = key_of(HEARTBEATS + node.number), key_of(ANSWERS + node.number)
+        if (beats, "00") not in self.plan.landmarks:
+            return False
+        keys = [beats, answers] + [pdo.key for pdo in node.pdos.values()]
+        planned = min((time for key in keys for time, data in self.plan.sent.get(key, ()) if (key, data) != (beats, "00")), default=None)
+        since = node.first.time - self.judge.causes.alignment.offset
+        return planned is not None and abs(since - planned) <= 2 * self.judge.tolerance.jitter
 
     def _left(self, spot):
         return milliseconds(self.judge.end - spot.time)
