@@ -137,13 +137,16 @@ def test_a_node_that_boots_without_a_boot_up_message_is_reported():
 
 
 def test_a_first_heartbeat_may_have_waited_for_a_start_before_the_log():
-    """It is pre-operational by the first frame of the log, and operational from then on; later nothing explains that."""
+    """It is pre-operational by the first frame of the log, and operational from then on, also where the next one comes late.
+
+    After two of them nothing explains that.
+    """
     put("net.txt", b"eds d 3\n[1017]\nDataType=6\nAccessType=rw\nnode 2 n2 d\nparam 2 1017 0 20\nhorizon 100000\ntrace\n")
     plan, _ = conform_judge.plan_of("net.txt", recorded())
-    for before, codes in ((1, []), (2, ["state"])):
+    for before, late, codes in ((1, 0, []), (1, 60_000, ["heartbeat-late"]), (2, 0, ["state"])):
         states = [0x7F] * before + [0x05] * 20
-        frames = [(20_000 * number, 0x702, bytes([state])) for number, state in enumerate(states)]
-        assert [code for code, _, _ in conform_judge.conform(plan, frames)] == codes, before
+        frames = [(20_000 * number + late * bool(number), 0x702, bytes([state])) for number, state in enumerate(states)]
+        assert [code for code, _, _ in conform_judge.conform(plan, frames)] == codes, (before, late)
 
 
 def test_nothing_is_missed_of_a_network_that_waits_for_a_mandatory_node():

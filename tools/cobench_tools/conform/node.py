@@ -173,17 +173,17 @@ class Node(Presence):
         elif self.state is None:
             if not waited:
                 self.set_state(state, time, False)
-        elif state == OPERATIONAL and self._was_started_unseen(time):
+        elif state == OPERATIONAL and self._was_started_unseen():
             self.set_state(state, time, False)
         elif not waited:
             self.tell("state", [self.number], f"it is {state_name(state)}, and "
                       f"{'was told to be' if self.is_sure else 'was'} {state_name(self.state)}", time, line)
 
-    def _was_started_unseen(self, time):
+    def _was_started_unseen(self):
         """Whether its state was known of one heartbeat alone, the first of the log, which may have waited before that began."""
-        period = self.heartbeat.period or 0
-        return (not self.is_sure and self.state == PRE_OPERATIONAL and self.first_state is not None
-                and self.since == self.first_state[0] <= self.judge.begin + period and time - self.since < 2 * period)
+        is_first = self.first_state is not None and self.since == self.first_state[0] == self.heartbeat.before
+        return (is_first and not self.is_sure and self.state == PRE_OPERATIONAL
+                and self.since <= self.judge.begin + (self.heartbeat.period or 0))
 
     def _may_have_waited(self, time, line):
         """Whether what comes now can have begun to wait before its state changed."""
