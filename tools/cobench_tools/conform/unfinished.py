@@ -16,18 +16,21 @@ class Unfinished:
         self.judge, self.plan = judge, judge.plan
 
     def finish(self):
-        begins = self._begins_with_the_run()
-        for node in self.judge.nodes.values():
-            if node.first is None:
-                continue
-            was_up = node.was_operational() and not node.is_started     # it runs, and nothing in the log started it
-            if begins and node.first_boot is None and not was_up and self._comes_as_planned(node):
+        heard = [node for node in self.judge.nodes.values() if node.first is not None]
+        unbooted = self._unbooted(heard)
+        for node in heard:
+            if node in unbooted:
                 node.tell("never-boots", [node.number], "it is heard, and no boot-up message of it is there", *node.first)
             elif node.reset_at and self._is_long(node.reset_at):
                 node.tell("never-boots", [node.number], f"it is reset, and no boot-up message of it comes in {self._left(node.reset_at)}, "
                           "to the end", *node.reset_at)
             elif node.last_boot and self._is_awaited(node):
                 self._stops(node)
+
+    def _unbooted(self, heard):
+        """The nodes of which a boot-up message is missing: the log begins with the planned run, and nothing says that one was up before."""
+        unbooted = [node for node in heard if node.first_boot is None]
+        return unbooted if self._begins_with_the_run() and all(map(self._comes_as_planned, unbooted)) else []
 
     def _begins_with_the_run(self):
         """Whether the first frame of the log is that of the planned run, and nodes boot in its order."""
@@ -38,9 +41,9 @@ class Unfinished:
         return judge.opening == opening and abs(judge.begin - alignment.offset - begin) <= SAME
 
     def _comes_as_planned(self, node):
-        """Whether a node is heard first when it is heard behind its boot-up message in the planned run: it wasn't up before the log."""
+        """Whether a node is heard first when it is heard behind its boot-up message in the planned run, and is started in the log."""
         beats, answers = key_of(HEARTBEATS + node.number), key_of(ANSWERS + node.number)
-        if (beats, "00") not in self.plan.landmarks:
+        if (beats, "00") not in self.plan.landmarks or node.was_operational() and not node.is_started:
             return False
         keys = [beats, answers] + [pdo.key for pdo in node.pdos.values()]
         planned = min((time for key in keys for time, data in self.plan.sent.get(key, ()) if (key, data) != (beats, "00")), default=None)
