@@ -144,6 +144,29 @@ message level 5 1 1 0 0 0
 source level 1 2000 0
 """
 
+# A node that takes values up to 100.
+LEVEL_TAKER = b"""\
+eds taker 18
+[1016sub1]
+DataType=7
+[1017]
+DataType=6
+[1400sub1]
+DataType=7
+DefaultValue=0x80000000
+[1400sub2]
+DataType=5
+[1600sub0]
+DataType=5
+[1600sub1]
+DataType=7
+[2000]
+ParameterName=Taken
+DataType=5
+PDOMapping=1
+HighLimit=100
+node 6 valve taker"""
+
 
 def lines_of_hand():
     """The run of the network by hand, as lines of a log."""
@@ -248,6 +271,18 @@ def test_a_value_beyond_its_limit_is_told():
     lines[at] = lines[at].replace("185#00", "185#65")
     assert told(lines) == [f"run.log:{at + 1}: error: message level: 185h: 101 is above the high limit 100 of 2000h:00 Level of node 5 pump "
                            f"(at {seconds(lines, at)} s) [pdo-limit]"]
+
+
+def test_a_value_beyond_its_limit_that_the_planned_run_has_is_told_at_no_time():
+    """The scenario sets 101 for 30 ms, which the receiver doesn't allow: a machine may have that sooner, and 102 is told."""
+    script = NETWORK.replace(b"HighLimit=100\n", b"").replace(b"eds unit 24", b"eds unit 23").replace(b"node 6 valve unit", LEVEL_TAKER)
+    put("net.txt", script + b"sink level 1 6 2000 0\nevent 1 200000 set 5 2000 0 101\nevent 2 230000 set 5 2000 0 0\n")
+    lines = writers.log_of(conform_judge.plan_of("net.txt", recorded())[1], "log", 1).splitlines(keepends=True)
+    assert sum(" 185#65" in line for line in lines) == 3 and told(lines) == []
+    at = place(lines, " 185#", 5)
+    for value, words in (("65", []), ("66", [f"run.log:{at + 1}: error: message level: 185h: 102 is above the high limit 100 of 2000h:00 Taken of "
+                                             f"node 6 valve (at {seconds(lines, at)} s) [pdo-limit]"])):
+        assert told(lines[:at] + [lines[at].replace("185#00", f"185#{value}")] + lines[at + 1:]) == words
 
 
 def test_a_cause_is_told_once_with_its_count():

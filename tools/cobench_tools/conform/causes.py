@@ -7,7 +7,7 @@ MOST = 10_000
 MOST_WAITING = 1_000
 MOST_SPOTS = 200
 MOST_NAMES, MOST_SIGNS = 4, 2
-HEARTBEATS = "heartbeat-late", "heartbeat-missed"
+HEARTBEATS, VALUE = ("heartbeat-late", "heartbeat-missed"), "pdo-limit"
 
 # Where in a log something is: its microsecond and its line.
 Spot = namedtuple("Spot", "time line")
@@ -41,12 +41,12 @@ class Causes:
     """The causes of a log.
 
     planned    the times of the causes that the planned run itself has, by key: what it has isn't told; `waits` those
-               of the frames that have to wait in it
+               of the frames that have to wait in it, and `values` what is said of its values beyond a limit
     tolerance  how far times may be off
     """
 
     def __init__(self, plan, times, tolerance):
-        self.plan, self.planned, self.waits, self.tolerance = plan, times.of, times.waits, tolerance
+        self.plan, self.planned, self.waits, self.values, self.tolerance = plan, times.of, times.waits, times.values, tolerance
         self.alignment = Alignment(plan.landmarks, tolerance)
         self.found, self.waiting, self.too_many, self.folds = {}, [], 0, []
 
@@ -55,6 +55,8 @@ class Causes:
         cause = Cause(code, tuple(map(str, subject)), about, self.plan.who(about), text, Spot(time, line), tuple(notes))
         if cause.key not in self.planned:
             self._add(cause)
+        elif (cause.key, text) in self.values:
+            return
         elif self.alignment.is_known():
             self._judge(cause)
         elif len(self.waiting) < MOST_WAITING:
@@ -132,12 +134,13 @@ class Times:
 
     of     the times of each cause, by key
     waits  the times and gaps of the frames that have to wait for the bus, by key
+    values what is said of each value beyond a limit: a machine may have it at another time
     """
 
     alignment = None
 
     def __init__(self):
-        self.of, self.waits, self.found = {}, {}, {}
+        self.of, self.waits, self.values, self.found = {}, {}, set(), {}
 
     def fold(self, key, follows):
         """Each is kept by itself."""
@@ -149,6 +152,8 @@ class Times:
         """Something isn't as the rules have it; a heartbeat that is late is missed later."""
         for each in HEARTBEATS if code in HEARTBEATS else (code,):
             self.of.setdefault((each, *map(str, subject)), []).append(time)
+        if code == VALUE:
+            self.values.add(((code, *map(str, subject)), text))
 
     def add_wait(self, key, time, gap):
         """A frame of a key has to wait for the bus, so that it comes so long after the one before it."""
