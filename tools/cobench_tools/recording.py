@@ -35,11 +35,11 @@ def network_of(plan, with_names):
     return network
 
 
-def lines_of_block(block, start):
+def lines_of_block(rows, aside, start):
     """The frames of a block, and what there is besides, by time."""
-    frames = (Frame(time - start, int(key[:3], 16), bytes.fromhex(data)) for time, key, data in block.rows)
+    frames = (Frame(time - start, int(key[:3], 16), bytes.fromhex(data)) for time, key, data in rows)
     others = (Foreign(each.time - start, each.kind, each.identifier, bytes.fromhex(each.data), bits_of(each))
-              for each in block.aside if each.kind != OTHER)
+              for each in aside if each.kind != OTHER)
     return heapq.merge(frames, others, key=lambda line: line.time)
 
 
@@ -55,7 +55,7 @@ def lines_of(log):
     for block in log.blocks():
         if block.set_back:
             tool.say(f"{log.where}:{block.set_back.line}: the recorder's clock is set back; times go on from the frame before")
-        found += lines_of_block(block, log.start)
+        found += lines_of_block(block.rows, block.aside, log.start)
     if log.cut:
         tool.say(f"{log.where}:{log.cut}: the recording is cut here")
     if not log.has_times:

@@ -1,5 +1,5 @@
 """Times in which nothing of the network was recorded, though several senders had to be heard: the recorder, its clock, or the bus."""
-from operator import sub
+import bisect
 
 from ..logs.intake import Block
 from .causes import Spot
@@ -35,11 +35,21 @@ class Gaps:
 
     def parts(self, block):
         """The parts of a block between which nothing was recorded for so long, nearly always all of it."""
-        times = [row[0] for row in block.rows]
-        before, self.last = self.last, Spot(times[-1], block.numbers[-1])
-        if max(map(sub, times[1:], times), default=0) <= self.least and (before is None or times[0] - before.time <= self.least):
+        times, before = block.times, self.last
+        self.last = Spot(times[-1], block.numbers[-1])
+        if (before is None or times[0] - before.time <= self.least) and not self._has_gap(times):
             return (block,)
         return self._split(block, times, before)
+
+    def _has_gap(self, times):
+        """Whether more than that lies between two of these times: it goes from one to the last one that is near enough."""
+        place, last = 0, len(times) - 1
+        while place < last:
+            following = bisect.bisect_right(times, times[place] + self.least, place) - 1
+            if following == place:
+                return True
+            place = following
+        return False
 
     def _split(self, block, times, before):
         start = 0

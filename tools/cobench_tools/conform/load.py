@@ -1,9 +1,11 @@
 """How full the bus of a log was, and by whose frames."""
 import bisect
 from collections import Counter
+from operator import itemgetter
 
 from ..logs.rows import ERROR, EXTENDED, FLEXIBLE, OTHER, REMOTE
 
+KEY = itemgetter(1)
 WINDOW = 100_000
 MOST_WINDOWS = 1_000_000
 
@@ -36,26 +38,26 @@ class Load:
 
     def add(self, block):
         """Counts the frames of a block."""
-        rows, aside = block.rows, [each for each in block.aside if each.kind not in (FLEXIBLE, OTHER)]
-        ends = [row[0] for row in rows[:1] + rows[-1:]] + [each.time for each in aside[:1] + aside[-1:]]
+        aside = [each for each in block.aside if each.kind not in (FLEXIBLE, OTHER)]
+        ends = block.times[:1] + block.times[-1:] + [each.time for each in aside[:1] + aside[-1:]]
         if not ends:
             return
         self.start = min(ends) if self.start is None else self.start
         self.last = max(ends)
-        self._add_rows(rows)
+        self._add_rows(block.rows, block.times)
         for each in aside:
             self._add_other(each)
 
-    def _add_rows(self, rows):
-        times = [time for time, _, _ in rows]
+    def _add_rows(self, rows, times):
         place = 0
         while place < len(rows):
             window = (times[place] - self.start) // WINDOW
             end = bisect.bisect_left(times, self.start + (window + 1) * WINDOW, place)
             self._fill(window, end - place, sum([len(data) for _, _, data in rows[place:end]]) // 2, FRAME)
             place = end
-        for _, key, data in [row for row in rows if row[1] not in self.planned]:
-            self.of[UNPLANNED] += FRAME[0][0] + FRAME[0][1] * (len(data) // 2)
+        if not self.planned.issuperset(map(KEY, rows)):
+            sizes = [len(data) // 2 for _, key, data in rows if key not in self.planned]
+            self.of[UNPLANNED] += FRAME[0][0] * len(sizes) + FRAME[0][1] * sum(sizes)
 
     def _add_other(self, aside):
         """Counts a frame that isn't one of the network."""

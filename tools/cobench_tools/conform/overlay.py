@@ -28,7 +28,7 @@ class Recorded:
         """Takes a block of the log."""
         rows = block.rows[:max(MOST_FRAMES - self.count, 0)]
         cut = len(block.rows) - len(rows)
-        lines = list(recording.lines_of_block(block._replace(rows=rows, aside=() if cut else block.aside), 0))
+        lines = list(recording.lines_of_block(rows, () if cut else block.aside, 0))
         self.left, self.count = self.left + cut, self.count + len(lines)
         if not lines:
             return

@@ -90,7 +90,7 @@ class Places:
             self.starts, self.every = self.starts[::2], 2 * self.every
         self.count += 1
         if len(self.first) < self.KEPT:
-            self.first.append((array("q", [time for time, _, _ in block.rows]), block.numbers))
+            self.first.append((array("q", block.times), block.numbers))
 
     def spot(self, time, last):
         """The time itself, and the line of the first frame from it on; `last` are the last blocks of the log."""

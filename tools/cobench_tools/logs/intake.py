@@ -16,19 +16,25 @@ class SetBack(NamedTuple):
     micros: int
 
 
-class Block(NamedTuple):
+class Block:
     """Frames of a log.
 
     rows      the time, the key and the bytes of each (see rows.py)
     numbers   the line of each
     aside     what there is besides
     set_back  how the clock was set back before its first line, None where it wasn't
+    times     the time of each, once they are asked for: no row is added then
     """
 
-    rows: List[Row]
-    numbers: Sequence[int]
-    aside: Sequence[Aside] = ()
-    set_back: Optional[SetBack] = None
+    def __init__(self, rows: List[Row], numbers: Sequence[int], aside: Sequence[Aside] = (), set_back: Optional[SetBack] = None) -> None:
+        self.rows, self.numbers, self.aside, self.set_back = rows, numbers, aside, set_back
+        self._times: Optional[List[int]] = None
+
+    @property
+    def times(self) -> List[int]:
+        if self._times is None:
+            self._times = [time for time, _, _ in self.rows]
+        return self._times
 
 
 class Intake:

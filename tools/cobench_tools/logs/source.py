@@ -151,7 +151,7 @@ class Log(Intake):
         """What a block has of the part that is looked at."""
         if self.part.is_all() or self.start is None:
             return block
-        first, last = self.part.cut([row[0] for row in block.rows], block.numbers, self.start)
+        first, last = self.part.cut(block.times, block.numbers, self.start)
         low, high = self.part.cut([each.time for each in block.aside], [each.line for each in block.aside], self.start)
         return Block(block.rows[first:last], block.numbers[first:last], block.aside[low:high], block.set_back)
 
