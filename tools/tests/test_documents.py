@@ -17,7 +17,7 @@ PAGES = [os.path.join(folder, name) for folder in FOLDERS for name in os.listdir
 
 
 def test_the_stored_sessions_have_the_examples_with_the_kept_replies():
-    for name, title in (("first_network", b"the first network of the README"), ("io_modules", b"two I/O modules and their"),
+    for name, title in (("first_network", b"a network of one node with a heartbeat"), ("io_modules", b"two I/O modules and their"),
                         ("servo_axes", b"two servo drives and their")):
         is_fine(run("expand", example(name + ".txt")), session(title))
         answers = re.sub(rb"(?m)^> .*\n", b"", session(title, "stdout"))
@@ -154,6 +154,16 @@ def floors():
     module = importlib.util.module_from_spec(importlib.util.spec_from_loader("floors", loader))
     loader.exec_module(module)
     return module
+
+
+def test_the_totals_of_planted_bodies_are_those_of_the_table():
+    text = page("docs", "planted.md")
+    rows = [[int(cell) for cell in row.split("|")[3:9]] for row in text.splitlines() if row.startswith("| `")]
+    assert all(made == sum(became) for made, *became in rows)
+    made, refused, right, limit, broken, passed = map(sum, zip(*rows))
+    assert f"Of {made:,} bodies that `rt plant` made, {refused:,} are refused, {right} answer the same by their contract" in text
+    assert f"and {passed} pass" in text
+    assert f"The other {limit + broken} say nothing: {limit} met a limit of the search, and {broken} don't compile." in text
 
 
 def test_the_drawing_of_the_crates_is_that_of_their_sources():
