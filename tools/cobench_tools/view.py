@@ -47,7 +47,8 @@ def add_arguments(parser: argparse.ArgumentParser) -> None:
     """The words that say what is shown, but for the names of files."""
     parser.add_argument("--log", metavar="LOG", help="show this recording in the words of SCRIPT; - is the standard input")
     parser.add_argument("--channel", metavar="NAME", help="take the frames of this channel of LOG alone, as can0, or 1 of ASC and TRC")
-    parser.add_argument("--bitrate", metavar="KBIT", type=int, choices=trace.BIT_RATES, help="the bit rate of LOG, where it isn't that of SCRIPT")
+    parser.add_argument("--bitrate", metavar="KBIT", type=int, choices=trace.BIT_RATES,
+                        help="the bit rate of LOG, where it isn't that of SCRIPT")
     part.add_arguments(parser)
     trace.add_arguments(parser)
     acceptance.add_arguments(parser)

@@ -124,7 +124,8 @@ def main():
         os.chdir(folder)
         for number in range(options.networks):
             wrong += own_run(number, program)
-        print(f"{options.networks} networks, each in {len(FORMS)} formats, cut twice, and by 2 other clocks: {len(wrong)} logs of which something is told")
+        print(f"{options.networks} networks, each in {len(FORMS)} formats, cut twice, and by 2 other clocks: "
+              f"{len(wrong)} logs of which something is told")
         if options.faults:
             counts, told = judge_kinds(options.kind or list(log_faults.KINDS), options.faults, range(options.of), program)
             print(*(f"{kind}: {count} logs" for kind, count in counts.items()), sep="\n")

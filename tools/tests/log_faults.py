@@ -171,7 +171,8 @@ def pdo_late(recording):
     """A PDO comes later behind SYNC than the window allows that all others keep to; which is given too."""
     found = []
     delays = [recording.frames[place][0] - recording.frames[sync_before(recording, place)][0]
-              for place in recording.pdos(lambda tpdo: tpdo.kind is not None and tpdo.kind <= 240) if sync_before(recording, place) is not None]
+              for place in recording.pdos(lambda tpdo: tpdo.kind is not None and tpdo.kind <= 240)
+              if sync_before(recording, place) is not None]
     window = max(delays, default=0) + 100
     for place in calm_pdos(recording):
         first, second = sync_before(recording, place), sync_behind(recording, place)

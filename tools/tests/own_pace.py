@@ -63,6 +63,7 @@ class Machine:
 
     def log(self):
         """The frames as a log of candump, with two of 29 bits and an error frame among them."""
-        lines = [f"({1700000000 + time // 1000000}.{time % 1000000:06}) can0 {identifier:03X}#{digits}\n" for time, identifier, digits in self.frames]
+        lines = [f"({1700000000 + time // 1000000}.{time % 1000000:06}) can0 {identifier:03X}#{digits}\n"
+                 for time, identifier, digits in self.frames]
         others = [f"{lines[49].split(' can0 ')[0]} can0 {frame}\n" for frame in ("18FF0102#0102", "20000088#0000800000000000", "18FF0102#")]
         return "".join(lines[:50] + others + lines[50:])

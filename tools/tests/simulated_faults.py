@@ -36,5 +36,6 @@ def booting_later(script, delays):
     """The script of a machine whose nodes have power so many microseconds after the others: {node: delay}."""
     events = []
     for number, (node, delay) in enumerate(sorted(delays.items())):
-        events += [b"event %d 0 power %d off\n" % (EVENT - 2 * number, node), b"event %d %d power %d on\n" % (EVENT - 2 * number - 1, delay, node)]
+        off, on = EVENT - 2 * number, EVENT - 2 * number - 1
+        events += [b"event %d 0 power %d off\n" % (off, node), b"event %d %d power %d on\n" % (on, delay, node)]
     return script + b"".join(events)

@@ -91,7 +91,8 @@ def without_message(number, program, tally):
             own = {0x700 + tpdo.node} | {pdo.identifier for pdo in plan.wiring.tpdos if pdo.node == tpdo.node}
             if not any(identifier in own for _, identifier, _ in frames[start:]):
                 key = "never-seen", str(tpdo.node)
-            tally.add("no message", number, *judged(plan, frames[start:]), key, [f"{tpdo.identifier:03X}h message {name}", plan.name(tpdo.node)])
+            names = [f"{tpdo.identifier:03X}h message {name}", plan.name(tpdo.node)]
+            tally.add("no message", number, *judged(plan, frames[start:]), key, names)
 
 
 def with_other_boots(number, program, tally):
@@ -105,7 +106,8 @@ def with_other_boots(number, program, tally):
     frames = simulated_faults.frames_of(simulated_faults.booting_later(script, delays), program)
     for _ in range(6 if len(frames) > 2 else 0):
         cut, ppm = dice.below(len(frames) - 1) + 1, dice.one([-PPM, PPM])
-        for name, each in (("later", frames[cut:]), ("sooner", frames[:cut]), ("by another clock", log_faults.drifted(frames[:cut], dice, ppm, JITTER))):
+        drifted = log_faults.drifted(frames[:cut], dice, ppm, JITTER)
+        for name, each in (("later", frames[cut:]), ("sooner", frames[:cut]), ("by another clock", drifted)):
             found, left = judged(plan, each)
             tally.counts[f"other boots, {name}", WRONG if found else "no word"] += 1
             tally.wrong += [f"{number} {name} {cut}: {[(cause.key, cause.first.line, cause.text) for cause in found[:3]]}"] if found else []

@@ -60,7 +60,8 @@ def arguments(parser):
     parser.add_argument("--format", choices=list(source.NAMES), help="read LOG so, whatever it looks like")
     parser.add_argument("--channel", metavar="NAME", help="take the frames of this channel alone, as can0, or 1 of ASC and TRC")
     part.add_arguments(parser)
-    parser.add_argument("--bitrate", metavar="KBIT", type=int, choices=trace.BIT_RATES, help="the bit rate of the bus, where it isn't that of SCRIPT")
+    parser.add_argument("--bitrate", metavar="KBIT", type=int, choices=trace.BIT_RATES,
+                        help="the bit rate of the bus, where it isn't that of SCRIPT")
     judging.add_arguments(parser)
     parser.add_argument("--timeline", metavar="FILE",
                         help="draw it as an HTML page: each recorded lane above the planned one, the first million frames")

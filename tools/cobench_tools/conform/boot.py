@@ -122,8 +122,8 @@ class Boot:
         for place in self.skipped:
             if is_same(self.writes[place], write):
                 before = self.skipped.pop(place)
-                self._tell("sdo-order", write[0], f"{self._text(*write)} comes late: it is planned before what line {before.line} writes", spot,
-                           self._planned_at(write[0]))
+                late = f"{self._text(*write)} comes late: it is planned before what line {before.line} writes"
+                self._tell("sdo-order", write[0], late, spot, self._planned_at(write[0]))
                 return True
         return False
 

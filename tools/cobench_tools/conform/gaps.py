@@ -68,7 +68,7 @@ class Gaps:
                      for streams in self._senders())
         if silent < SENDERS:
             return
-        judge, long = self.judge, milliseconds(after.time - before.time)
-        judge.causes.tell("gap", ["bus"], ("bus",), f"nothing of the network was recorded for {long}, and {silent} senders had to be heard: "
-                          "the recorder or its clock, or all of the bus", after.time, after.line, [(before.line, "the last frame before")])
-        judge.begin_anew(after.time)
+        text = (f"nothing of the network was recorded for {milliseconds(after.time - before.time)}, and {silent} senders had to be heard: "
+                "the recorder or its clock, or all of the bus")
+        self.judge.causes.tell("gap", ["bus"], ("bus",), text, *after, [(before.line, "the last frame before")])
+        self.judge.begin_anew(after.time)

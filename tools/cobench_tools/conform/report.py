@@ -116,8 +116,8 @@ class ConformReport(Report):
         load = self.judge.bus.load
         shares = load.shares(load.bits)
         peak = max(range(len(shares)), key=shares.__getitem__)
-        texts = [f"load {load.total(load.bits):.1f} %{self.whose_text()}, with stuff bits at most {load.total(load.most):.1f} %; its peak in "
-                 f"{WINDOW // 1000} ms {shares[peak]:.1f} %, from {seconds(peak * WINDOW + load.start - self.zero)} on"]
+        texts = [f"load {load.total(load.bits):.1f} %{self.whose_text()}, with stuff bits at most {load.total(load.most):.1f} %",
+                 f"its peak in {WINDOW // 1000} ms {shares[peak]:.1f} %, from {seconds(peak * WINDOW + load.start - self.zero)} on"]
         sync = self.judge.sync
         if sync.period and sync.count > 1:
             texts.append(f"SYNC each {milliseconds(sync.shortest)} to {milliseconds(sync.longest)}")

@@ -34,7 +34,8 @@ class Candump:
         self.resolution = max(self.resolution, resolution(len(time.partition(".")[2]), 1_000_000))
         kind, number = kind_of(identifier, data), int(identifier, 16)
         if kind:
-            return Aside(kind, micros(time), channel, None if kind == ERROR else number & MOST_OF_29, data.upper() if kind == EXTENDED else "")
+            number, data = None if kind == ERROR else number & MOST_OF_29, data.upper() if kind == EXTENDED else ""
+            return Aside(kind, micros(time), channel, number, data)
         return micros(time), channel, key_of(number), data.upper()
 
     def rows(self, text, channel):

@@ -34,7 +34,8 @@ class Log(Intake):
     size       the bytes of the file, 0 where they aren't known; `position` is how many of them were read
     """
 
-    def __init__(self, path: str, wanted: Optional[str] = None, channel: Optional[str] = None, slack: int = 0, part: Optional[Part] = None, may_be_cut: bool = False) -> None:
+    def __init__(self, path: str, wanted: Optional[str] = None, channel: Optional[str] = None, slack: int = 0,
+                 part: Optional[Part] = None, may_be_cut: bool = False) -> None:
         super().__init__(tool.name_of(path), channel, slack)
         self.path, self.wanted, self.part, self.may_be_cut = path, wanted, part or Part(), may_be_cut
         self.aside: "typing.Counter[str]" = Counter()
@@ -208,7 +209,8 @@ class Log(Intake):
                     return
                 if not self.part.is_before(self.line):
                     what = why if isinstance(why, Unreadable) else f"this is no line of {self.format.title}"
-                    raise tool.Fault(f"{self.where}:{self.line}: {what}: {safe_text.readable(tool.shown(line[:60].encode('latin-1')))}") from None
+                    shown = safe_text.readable(tool.shown(line[:60].encode("latin-1")))
+                    raise tool.Fault(f"{self.where}:{self.line}: {what}: {shown}") from None
 
 
 def opened(path: str) -> Tuple[io.BufferedReader, int]:
