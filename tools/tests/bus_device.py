@@ -11,6 +11,7 @@ import time
 from cobench_tools import values
 from cobench_tools.device import Device as Sheet
 
+PRODUCER = 0x1017, 0
 BOOTING, STOPPED, OPERATIONAL, PRE_OPERATIONAL = 0, 4, 5, 127
 SIGNATURES = {0x1010: struct.pack("<I", 0x65766173), 0x1011: struct.pack("<I", 0x64616F6C)}
 
@@ -97,9 +98,9 @@ class Device:
         return [(0x580 + self.number, answer) for answer in self.server.take(data)]
 
     def heartbeat(self, now):
-        """Its heartbeat, where it is due."""
-        entry = self.entries.get((0x1017, 0))
-        period = int.from_bytes(entry.data, "little") / 1000 if entry else 0
+        """Its heartbeat, where it is due at a microsecond."""
+        entry = self.entries.get(PRODUCER)
+        period = 1000 * int.from_bytes(entry.data, "little") if entry else 0
         if self.is_dead or not period:
             self.beat = None
             return []
@@ -158,6 +159,8 @@ class Device:
             return
         self.entries[key].data = data
         self.written[key] = self.written.get(key, 0) + 1
+        if key == PRODUCER:
+            self.beat = None
 
 
 class LssSlave:

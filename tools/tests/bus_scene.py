@@ -27,8 +27,20 @@ def python_can():
     return python_can()
 
 
-class Rack(threading.Thread):
-    """The devices on a bus of python-can; it keeps the frames that it gets, and those that it sends."""
+class Received:
+    """A bus with devices; `frames` are those that were sent to them."""
+
+    def requests(self, node):
+        """The requests that were sent to a node."""
+        return [data for identifier, data in self.frames if identifier == 0x600 + node]
+
+    def commands(self):
+        """The NMT commands that were sent."""
+        return [data for identifier, data in self.frames if identifier == 0]
+
+
+class Rack(threading.Thread, Received):
+    """The devices on a bus of python-can, by the computer's clock."""
 
     def __init__(self, devices, channel, interface="virtual", also=()):
         super().__init__(daemon=True)
@@ -46,7 +58,7 @@ class Rack(threading.Thread):
                 for device in self.devices:
                     self.put(device.take(message.arbitration_id, bytes(message.data)))
             for device in self.devices:
-                self.put(device.heartbeat(time.monotonic()))
+                self.put(device.heartbeat(time.monotonic_ns() // 1000))
 
     def others(self, now):
         """Others send their frames again and again."""
@@ -65,14 +77,6 @@ class Rack(threading.Thread):
         self.is_over = True
         self.join()
         self.bus.shutdown()
-
-    def requests(self, node):
-        """The requests that were sent to a node."""
-        return [data for identifier, data in self.frames if identifier == 0x600 + node]
-
-    def commands(self):
-        """The NMT commands that were sent."""
-        return [data for identifier, data in self.frames if identifier == 0]
 
 
 class Output(io.TextIOWrapper):

@@ -3,7 +3,9 @@ import re
 import signal
 import time
 
+import bus_clock
 import bus_device
+import bus_running
 import conform_judge
 from bus_scene import Rack, here, on_bus, python_can
 from helper import in_parallel, put, real, recorded
@@ -13,10 +15,12 @@ from cobench_tools.bus.download import Download, Network
 from cobench_tools.bus.neighbours import Neighbours
 from cobench_tools.bus.planned import Planned
 from cobench_tools.bus.sdo_client import SdoClient
+from cobench_tools.logs import writers
 from cobench_tools.trace import Frame
 
-NUMBERS = 0, 7
+NUMBERS = 0, 6, 7
 QUICK = "--yes", "--listen", "0", "--timeout", "3000"
+RUNNING = 0.3       # seconds for which a machine runs once it is started
 
 SHEET = """[1000]
 DataType=7
@@ -313,48 +317,70 @@ def test_one_value_that_was_changed_by_hand_is_told_alone():
     assert "node 6 fan: 1000h:00: no answer in 300 ms [sdo-unanswered]" in output, output
 
 
+class Machine:
+    """The devices and the manager of a network of a number on a bus with a clock of its own."""
+
+    def __init__(self, number, program):
+        put("net.txt", conform_judge.script_of(number))
+        self.number, self.program, self.plan = number, program, Planned("net.txt", program)
+        nodes, texts = self.plan.project.nodes, self.plan.project.texts
+        self.devices = [bus_running.Running(node, texts[eds]) for node, (_, eds) in nodes.items()]
+        self.bus = bus_clock.ClockedBus([*self.devices, bus_clock.Manager(self.plan)], self.plan.project.bitrate)
+
+    def run(self, action, *words):
+        """What an action does on it: status, output and faults."""
+        with bus_clock.used(self.bus):
+            return here("bus", action, *words, "--timeout", "3000", "--interface", "virtual", "--cobench", self.program, "net.txt")
+
+    def why_wrong(self):
+        """Why it isn't downloaded as planned, "" where it is; every second network is reset first."""
+        reset = ["--reset"] if self.number % 2 else []
+        status, output, faults = self.run("download", "--yes", "--force", *reset, "--log", "boot.log")
+        self.bus.run(RUNNING)
+        if status or not has_planned_frames(self.plan, self.bus) or not all(device.starts for device in self.devices):
+            return f"{self.number}: download: {status} {output} {faults}"
+        put("machine.log", writers.log_of(self.bus.recorded, "log", 1).encode())
+        status, output, faults = self.run("verify")
+        if status or not output.startswith("no errors; "):
+            return f"{self.number}: verify: {output} {faults}"
+        return self.one_changed() or self.conforms("boot.log") or self.conforms("machine.log")
+
+    def one_changed(self):
+        """Changes the last bit of one entry by hand: it has to be told, and it alone."""
+        plan, device = self.plan, self.devices[self.number % len(self.devices)]
+        keys = [key for key, data in plan.values(device.number).items()
+                if data and plan.is_readable(device.number, key) and key not in device.process()]
+        if not keys:
+            return ""
+        key = keys[self.number % len(keys)]
+        entry = device.entries[key]
+        entry.data = bytes([entry.data[0] ^ 1]) + entry.data[1:]
+        status, output, _ = self.run("verify")
+        told = re.findall(r"(?m): error: node (\d+) .*?: ([0-9A-F]{4})h:([0-9A-F]{2}).* \[differs\]$", output)
+        is_told = status == 1 and told == [(str(device.number), f"{key[0]:04X}", f"{key[1]:02X}")] and output.startswith("net.txt:")
+        return "" if is_told else f"{self.number}: {key}: {output}"
+
+    def conforms(self, log):
+        """The recording of a download, and of the machine that runs behind it, is as planned."""
+        status, output, faults = here("conform", "--cobench", self.program, "net.txt", log)
+        return "" if status == 0 else f"{self.number}: conform {log}: {output} {faults}"
+
+
 def download_and_verify(number, program):
     """Why the network of a number isn't downloaded as planned, "" where it is."""
-    put("net.txt", conform_judge.script_of(number))
-    plan = Planned("net.txt", program)
-    if not plan.nodes:
-        return ""
-    made = [bus_device.Device(node, plan.project.texts[eds]) for node, (_, eds) in plan.project.nodes.items()]
-    words = "--cobench", program
-    status, output, faults, rack = on_bus(made, "download", *QUICK, "--force", "--log", "boot.log", *words, "net.txt")
-    if status or not has_planned_frames(plan, rack) or not all(device.starts for device in made):
-        return f"{number}: download: {status} {output} {faults}"
-    status, output, faults, rack = on_bus(made, "verify", "--timeout", "3000", *words, "net.txt")
-    if status or not output.startswith("no errors; "):
-        return f"{number}: verify: {output} {faults}"
-    return one_changed(number, plan, made, words) or conforms(number, words)
+    machine = Machine(number, program)
+    return machine.why_wrong() if machine.plan.nodes else ""
 
 
-def one_changed(number, plan, made, words):
-    """Changes the last bit of one entry by hand: it has to be told, and it alone."""
-    device = made[number % len(made)]
-    keys = [key for key, data in plan.values(device.number).items() if data and plan.is_readable(device.number, key)]
-    if not keys:
-        return ""
-    key = keys[number % len(keys)]
-    entry = device.entries[key]
-    entry.data = bytes([entry.data[0] ^ 1]) + entry.data[1:]
-    status, output, faults, _ = on_bus(made, "verify", "--timeout", "3000", *words, "net.txt")
-    told = re.findall(r"(?m): error: node (\d+) .*?: ([0-9A-F]{4})h:([0-9A-F]{2}).* \[differs\]$", output)
-    is_told = status == 1 and told == [(str(device.number), f"{key[0]:04X}", f"{key[1]:02X}")] and output.startswith("net.txt:")
-    return "" if is_told else f"{number}: {key}: {output}"
-
-
-# What a manager sends besides, and PDOs, which the devices here don't send; times are those of Python's threads; and before
-# its boot a device has the heartbeat of its data sheet, which may come twice as often.
-ALLOWED = ("sync-missing", "never-seen 127", "pdo-event", "pdo-missing", "gap", "silent", "heartbeat-late", "heartbeat-missed", "two-devices")
-
-
-def conforms(number, words):
-    """The log of a download is as planned, but for what is allowed here."""
-    allowed = [word for code in ALLOWED for word in ("--allow", code)]
-    status, output, faults = here("conform", *words, "--jitter", "100000", *allowed, "net.txt", "boot.log")
-    return "" if status == 0 else f"{number}: conform: {output} {faults}"
+def test_what_rpdos_have_changed_is_counted_alone():
+    """The network of number 6 has an entry that its script sets and that a message writes; where nothing runs, it has to be as it was set."""
+    machine = Machine(6, recorded())
+    assert machine.run("download", "--yes", "--force", "--listen", "0", "--no-start")[0] == 0
+    assert machine.run("verify")[:2] == (0, "no errors; 6 nodes, 92 values compared, 3 that can only be written not among them\n")
+    machine.bus.put(machine.bus.senders[-1], [(0, b"\1\0")])
+    machine.bus.run(RUNNING)
+    assert machine.run("verify")[:2] == (0, "no errors; 6 nodes, 92 values compared, 3 that can only be written not among them; "
+                                         "1 changed by RPDOs\n"), machine.run("verify")
 
 
 def test_generated_networks_are_downloaded_and_compared():

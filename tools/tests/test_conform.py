@@ -207,6 +207,26 @@ def test_a_heartbeat_that_stays_away_is_told_with_who_misses_it():
     assert "1017h has 40.000 ms, and node 6 valve misses it after 120.000 ms (at " in found[0] and found[0].endswith("[heartbeat-missed]")
 
 
+def beats(state, period, start, count):
+    """Heartbeats of the pump in a state, from a microsecond on."""
+    return [f"({1 + (start + period * number) / 1e6:.6f}) can0 705#{state}\n" for number in range(count)]
+
+
+def test_a_node_that_may_not_be_configured_may_have_the_heartbeat_of_its_data_sheet():
+    """1017h of node 5 is 40 ms, and by the data sheet 90 or 20: so it may be until it is written, or the node is operational."""
+    def of_pump(*lines):
+        codes = [re.findall(r"\[(heartbeat-late|two-devices)\]$", line) for line in told([*lines]) if "node 5 pump" in line]
+        return sum(codes, [])
+    write = ["(1.500000) can0 605#2B17100028000000\n", "(1.500300) can0 585#6017100000000000\n"]
+    for default, period, code in ((90, 90_000, "heartbeat-late"), (20, 20_000, "two-devices")):
+        put("net.txt", NETWORK.replace(b"eds unit 24\n", b"eds unit 25\n").replace(b"[1017]\nDataType=6\n", b"[1017]\nDataType=6\nDefaultValue=%d\n" % default))
+        assert of_pump(*beats("7F", period, 0, 5)) == [] == of_pump(*beats("7F", 40_000, 0, 9))
+        assert of_pump(*beats("7F", period, 0, 5), *write, *beats("7F", 40_000, 540_300, 5)) == []
+        assert of_pump(*beats("7F", period, 0, 5), *write, *beats("7F", period, 500_300 + period, 5)) == [code]
+        assert of_pump(*beats("05", period, 0, 5)) == [code] == of_pump(*beats("7F", period, 0, 5), *beats("05", period, 5 * period, 5))
+        assert of_pump(*beats("7F", 100_000, 0, 5)) == ["heartbeat-late"]
+
+
 def test_the_window_of_a_node_is_judged():
     """1007h of node 5 is 2,000 us. A PDO that comes 4 ms behind its SYNC is told; one that comes 2.5 ms behind isn't, by 500 us of jitter."""
     put("net.txt", NETWORK.replace(b"eds unit 24\n", b"eds unit 26\n[1007]\nDataType=7\n") + b"param 5 1007 0 2000\n")

@@ -97,6 +97,7 @@ def opened(options: argparse.Namespace, planned: Optional[int] = None, is_silent
 class Connection:
     """An open bus, to be used in a `with`.
 
+    clock      what tells the time by which the bus is heard
     log        what each frame is written into, None for nothing
     observers  what takes each frame that others send
     is_silent  whether nothing may be sent
@@ -105,6 +106,7 @@ class Connection:
     has_echo   whether each frame that was sent comes back as one of another
     """
 
+    clock: Any = time
     has_echo, name = False, "can0"
 
     def __init__(self, can: Any, bus: Any, log: Optional[FrameLog] = None, is_silent: bool = False) -> None:
@@ -127,18 +129,18 @@ class Connection:
         if self.is_silent:
             raise tool.Fault("nothing is sent here")
         message = self.can.Message(arbitration_id=identifier, data=data, is_extended_id=False)
-        until = time.monotonic() + FULL
+        until = self.clock.monotonic() + FULL
         if self.has_echo:
             self.echoes.append((identifier, bytes(data)))
         if self.log:
-            self.log.put(int(time.time() * 1e6), text_of(message))
+            self.log.put(int(self.clock.time() * 1e6), text_of(message))
         while True:
             try:
                 return self.bus.send(message, timeout=FULL)
             except (self.can.CanError, OSError) as error:
-                if time.monotonic() > until:
+                if self.clock.monotonic() > until:
                     raise tool.Fault(f"the adapter takes no frame: {error}") from None
-                time.sleep(PAUSE)
+                self.clock.sleep(PAUSE)
 
     def receive(self, until: float) -> Optional[Frame]:
         """The next frame of the others, or None where there is none by a time of the monotonic clock."""
@@ -155,7 +157,7 @@ class Connection:
     def message(self, until: float) -> Any:
         """The next message of the others, whatever it is, or None; its timestamp is one of the computer's clock."""
         while True:
-            left = until - time.monotonic()
+            left = until - self.clock.monotonic()
             message = self._received(max(left, 0))
             if message is None and left <= 0:
                 return None
@@ -172,7 +174,7 @@ class Connection:
     def _take(self, message: Any) -> None:
         """Gives a message its time, and has the log take it."""
         if self.offset is None:
-            offset = round(time.time() - message.timestamp, 6)
+            offset = round(self.clock.time() - message.timestamp, 6)
             self.offset = 0 if abs(offset) < SAME_CLOCK else offset
         message.timestamp += self.offset
         if self.log:
@@ -196,7 +198,7 @@ class Connection:
 
     def waiting(self) -> List[Frame]:
         """The frames of the others that have come already."""
-        now = time.monotonic()
+        now = self.clock.monotonic()
         found: List[Frame] = []
         while len(found) < MOST_WAITING:
             frame = self.receive(now)
@@ -207,7 +209,7 @@ class Connection:
 
     def listen(self, seconds: float) -> List[Frame]:
         """Takes what comes in a time; the frames."""
-        until, found = time.monotonic() + seconds, []
+        until, found = self.clock.monotonic() + seconds, []
         frame = self.receive(until)
         while frame:
             found.append(frame)

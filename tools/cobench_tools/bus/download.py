@@ -68,7 +68,7 @@ class Download:
 
     def _read_back(self) -> None:
         if self.reads_back:
-            comparison = Comparison(self.plan, self.client)
+            comparison = Comparison(self.plan, self.client, set())
             comparison.values()
             if comparison.findings:
                 self._take(comparison.findings[0])

@@ -1,5 +1,4 @@
 """The master of the layer setting services (CiA 305): numbers and bit rates of devices that have none yet."""
-import time
 from typing import Dict, List, Optional
 
 from ..trace import Frame
@@ -62,7 +61,7 @@ class Master:
 
     def answer(self, command: int, what: str) -> bytes:
         """The first answer to a command."""
-        until = time.monotonic() + self.timeout
+        until = self.bus.clock.monotonic() + self.timeout
         frame = self.bus.receive(until)
         while frame:
             if is_answer(frame, command):

@@ -1,6 +1,5 @@
 """What others on the bus do: which nodes are heard and in which state, and what shows that there is another master."""
 import argparse
-import time
 from typing import Callable, Dict, List, Optional, Set
 
 from ..meaning import STATES
@@ -35,7 +34,7 @@ def listened(bus: Connection, options: argparse.Namespace, manager: Optional[int
 
 def wait(bus: Connection, seconds: float, is_over: Callable[[], bool]) -> bool:
     """Takes what comes until something is so, for so many seconds at most; whether it is."""
-    until = time.monotonic() + seconds
+    until = bus.clock.monotonic() + seconds
     while not is_over():
         if bus.receive(until) is None:
             return is_over()

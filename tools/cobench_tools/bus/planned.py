@@ -1,11 +1,12 @@
 """The plan of a script on the bus: which of its nodes are meant, their writes, and what is told of them."""
 import argparse
-from typing import Dict, Iterable, List, Optional
+from typing import Dict, Iterable, List, Optional, Set
 
 from .. import acceptance, findings, judgement, session, tool, within
 from ..conform.plan import Plan
 from ..evidence import Evidence
 from ..file_difference import pdo_text
+from ..wiring import RPDO
 from . import value
 from .transfer import Key
 
@@ -52,6 +53,10 @@ class Planned(Plan):
     def is_readable(self, node: int, key: Key) -> bool:
         entry = self.evidence.device(node).entries.get(key)
         return entry is None or entry.access != "wo"
+
+    def process(self, node: int) -> Set[Key]:
+        """The entries of a node that its RPDOs write while it is operational."""
+        return {part.key for pdo in self.wiring.nodes[node].pdos(RPDO) for part in pdo.parts if not part.is_dummy()}
 
     def value_text(self, node: int, key: Key, data: bytes) -> str:
         """A value of an entry in words."""

@@ -1,5 +1,4 @@
 """Asks every number on the bus who it is; nothing is written."""
-import time
 from typing import Callable, Dict, Optional
 
 from . import identity
@@ -53,7 +52,7 @@ class Scan:
         self._take(self.timeout)
 
     def _take(self, seconds: float) -> None:
-        until = time.monotonic() + seconds
+        until = self.bus.clock.monotonic() + seconds
         frame = self.bus.receive(until)
         while frame:
             number = frame.identifier - ANSWERS

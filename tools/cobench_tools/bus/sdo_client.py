@@ -2,7 +2,6 @@
 
 Its frames are those of docs/rules/sdo.md; block transfers are in sdo_block.py.
 """
-import time
 from typing import Optional
 
 from ..trace import Frame
@@ -115,7 +114,7 @@ class SdoClient:
             raise
 
     def _answer(self) -> bytes:
-        until = time.monotonic() + self.timeout
+        until = self.connection.clock.monotonic() + self.timeout
         while True:
             frame = self.connection.receive(until)
             if frame is None:

@@ -1,5 +1,5 @@
 """Compares what a device holds with what the plan writes into it; nothing is written."""
-from typing import Callable, List, Optional
+from typing import Callable, List, Optional, Set
 
 from ..findings import Finding
 from .planned import Planned
@@ -11,13 +11,15 @@ class Comparison:
     """A node beside its plan.
 
     step      is called once a value is done
+    process   the entries that may have another value, as RPDOs of the node write them
     findings  what isn't as planned
-    compared  how many entries were read; `unreadable` how many can only be written
+    compared  how many entries were read; `unreadable` how many can only be written, `changed` how many RPDOs have changed
     """
 
-    def __init__(self, plan: Planned, client: SdoClient, step: Callable[[], None] = lambda: None) -> None:
-        self.plan, self.node, self.client, self.step = plan, client.node, client, step
-        self.compared = self.unreadable = 0
+    def __init__(self, plan: Planned, client: SdoClient, process: Set[Key],
+                 step: Callable[[], None] = lambda: None) -> None:
+        self.plan, self.node, self.client, self.process, self.step = plan, client.node, client, process, step
+        self.compared = self.unreadable = self.changed = 0
         self.findings: List[Finding] = []
 
     def run(self) -> "Comparison":
@@ -57,7 +59,11 @@ class Comparison:
             self._tell(why.code, key, f"{self._text(key, planned)} is planned, and reading it ends by {why.text}")
             return
         self.compared += 1
-        if not is_same(code, planned, found):
+        if is_same(code, planned, found):
+            return
+        if key in self.process:
+            self.changed += 1
+        else:
             self._tell(code, key, f"{self._text(key, planned)} is planned, and the device has {self._text(key, found)}")
 
     def _text(self, key: Key, data: bytes) -> str:

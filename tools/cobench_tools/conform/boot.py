@@ -152,8 +152,7 @@ class Boot:
         """A write was confirmed: the node goes by it from then on, at the latest."""
         if transfer.key == HEARTBEAT_TIME and len(transfer.data) == 2:
             period = 1000 * int.from_bytes(transfer.data, "little")
-            self.node.heartbeat.set_period(period if period == self.node.planned.heartbeat else 0)
-            self.node.heartbeat.anchor(time, line)
+            self.node.heartbeat.begin(period if period == self.node.planned.heartbeat else 0, time, line)
         elif transfer.key[0] in PDO_OBJECTS:
             self.node.rest_pdo(transfer.key[0], time)
         if transfer.key in self.keys:

@@ -19,6 +19,7 @@ class Heartbeat:
     """The heartbeats of a node.
 
     period    the microseconds from one to the next, 0 for none, None where it isn't known
+    at_first  those that they may be as well, as long as the node may not be configured yet; 0 for none
     last      the time of the last one, or of what it counts from, None before; `line` its line
     is_beat   whether that was a heartbeat, and not what it counts from; `before` is the time of the one before it
     was_seen  whether one came at all; `rested` is when it was to begin anew
@@ -27,7 +28,7 @@ class Heartbeat:
 
     def __init__(self, judge, node, period):
         self.judge, self.node, self.key = judge, node, key_of(BOOT_UP + node.number)
-        self.last, self.line, self.expected, self.high = None, 0, "", NEVER
+        self.last, self.line, self.expected, self.high, self.at_first = None, 0, "", NEVER, 0
         self.is_beat, self.before, self.low, self.was_seen, self.rested = False, None, 0, False, 0
         self.spare = 2 * judge.plan.duration(16)
         self.watched = judge.plan.consumers.get(node.number, [])
@@ -36,15 +37,24 @@ class Heartbeat:
     def set_period(self, period):
         """Takes the period by which they come from now on."""
         self.period = period
-        self.high = period + self.judge.tolerance.of(period) if period else NEVER
-        self.low = period // 2 if period else 0
+        longest, shortest = max(period, self.at_first), min(period, self.at_first or period)
+        self.high = longest + self.judge.tolerance.of(longest) if period else NEVER
+        self.low = shortest // 2
 
     def tolerate(self):
         """Works out what is allowed."""
         self.set_period(self.period)
 
-    def anchor(self, time, line):
-        """The period begins anew."""
+    def may_be(self, at_first):
+        """The period may be this one as well, 0 for no other."""
+        if self.at_first != at_first:
+            self.at_first = at_first
+            self.set_period(self.period)
+
+    def begin(self, period, time, line):
+        """The period is known, and begins now."""
+        self.at_first = 0
+        self.set_period(period)
         self.last, self.line, self.is_beat, self.before = time, line, False, None
 
     def take(self, time, data, number):

@@ -82,6 +82,8 @@ class Node(Presence):
     def set_state(self, state, time, is_sure):
         self.state, self.since, self.is_sure, self.possible = state, time, is_sure, None
         self.heartbeat.expected = STATE_BYTES.get(state, "")
+        if state != PRE_OPERATIONAL:
+            self.heartbeat.may_be(0)
 
     def boot_up(self, time, line):
         """Its boot-up message came."""
@@ -100,8 +102,7 @@ class Node(Presence):
         self.judge.startup.activity(time)
         self.boot.begin(is_expected)
         self.talk.forget()
-        self.heartbeat.set_period(period)
-        self.heartbeat.anchor(time, line)
+        self.heartbeat.begin(period, time, line)
         self._rest()
 
     def _boots_again(self, time, line):
@@ -161,7 +162,9 @@ class Node(Presence):
         self._rest()
 
     def tells_state(self, state, time, line):
-        """A heartbeat tells its state."""
+        """A heartbeat tells its state; a node that is found pre-operational may not be configured yet."""
+        if state != PRE_OPERATIONAL or not self.first_state:
+            self.heartbeat.may_be(self.planned.at_first if state == PRE_OPERATIONAL else 0)
         self.first_state = self.first_state or (time, f"{state:02X}")
         self.may_have_booted = False
         if state == self.state:

@@ -17,7 +17,8 @@ writes, and tells what is other, with the line of SCRIPT that has it written:
 
   network.txt:9: error: node 1 x_axis: 6065h:00 ..: 8192 (2000h) is planned, and the device has 4096 (1000h) [differs]
 
-Nothing is written. Entries that can only be written are counted in the last line.
+Nothing is written. Entries that can only be written are counted in the last line, and
+so are those whose value is another one because RPDOs of the node write them.
 A finding is accepted by its words, as --allow 'differs 1 6065'.
 
 Status: 0 where all is as planned, 1 where something isn't, 2 where SCRIPT can't be
@@ -36,13 +37,14 @@ def arguments(parser: argparse.ArgumentParser) -> None:
 def compared(plan: planned.Planned, nodes: List[int], bus: connection.Connection, seconds: float) -> List[Comparison]:
     """The comparisons of these nodes."""
     with Progress(sum(len(plan.values(node)) for node in nodes), "values") as progress:
-        return [Comparison(plan, SdoClient(bus, node, seconds), progress.step).run() for node in nodes]
+        return [Comparison(plan, SdoClient(bus, node, seconds), plan.process(node), progress.step).run() for node in nodes]
 
 
 def summary(comparisons: List[Comparison], found: List[Finding]) -> str:
     entries = sum(each.compared for each in comparisons)
-    unreadable = sum(each.unreadable for each in comparisons)
+    unreadable, changed = (sum(each) for each in zip(*((one.unreadable, one.changed) for one in comparisons)))
     more = f", {unreadable} that can only be written not among them" if unreadable else ""
+    more += f"; {changed} changed by RPDOs" if changed else ""
     open_ones = [each for each in found if not each.accepted]
     accepted = f", {len(found) - len(open_ones)} accepted" if len(open_ones) < len(found) else ""
     errors = counted(len(open_ones), "error")
