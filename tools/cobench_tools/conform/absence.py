@@ -13,13 +13,14 @@ What came and stays away after that is reported by its own follower; here is wha
 """
 from ..logs.terminal import NO_TIMES
 from .plan import milliseconds
+from .presence import LEAST_SILENT
 from .rests import Rests
 from .startup import CALM
 
-PERIODS_OF_SYNC, LEAST_SILENT = 2, 2
+PERIODS_OF_SYNC = 2
 
 
-class Thing:
+class Awaited:
     """Something that is planned to come by itself.
 
     key, name  the key of its frames, and what it is in words
@@ -68,7 +69,7 @@ class Thing:
         return milliseconds(self.judge.end - spot.time + self.longest)
 
 
-class Beat(Thing):
+class AwaitedHeartbeat(Awaited):
     """The heartbeats of a node or of the manager."""
 
     def __init__(self, judge, node, period):
@@ -94,7 +95,7 @@ class Beat(Thing):
         self.judge.causes.tell_absent(code, [self.node.number], self.node.about, text, spot)
 
 
-class SyncThing(Thing):
+class AwaitedSync(Awaited):
     """SYNC."""
 
     def __init__(self, judge):
@@ -112,7 +113,7 @@ class SyncThing(Thing):
                                       f"SYNC: there is none; the period is {milliseconds(self.stream.period)}", spot, notes, is_first=True)
 
 
-class TimedPdo(Thing):
+class AwaitedPdo(Awaited):
     """A PDO that comes by itself once its node is operational, here by its event time."""
 
     def __init__(self, judge, pdo, longest=None):
@@ -130,7 +131,7 @@ class TimedPdo(Thing):
                                 f"{milliseconds(self.stream.period)}", spot)
 
 
-class SyncedPdo(TimedPdo):
+class AwaitedSyncPdo(AwaitedPdo):
     """The same of type 1 to 240; with a SYNC start value, once the counter of SYNC has that."""
 
     def __init__(self, judge, pdo):
@@ -159,7 +160,7 @@ class SyncedPdo(TimedPdo):
         self.stream.tell_absent("pdo-missing", f"it doesn't come after SYNC, {max(many, 1):,} times; its type is {self.stream.step}", spot)
 
 
-class BootUp(Thing):
+class AwaitedBoot(Awaited):
     """The boot-up message of a node of which nothing came, where the log has the start of the machine."""
 
     def __init__(self, judge, node):
@@ -200,51 +201,51 @@ class Absences:
             self.left.append(("whatever comes by itself", "the log has no times"))
             return
         if judge.sync.period and judge.sync.last is None:
-            self._judge(SyncThing(judge))
-        self._judge_all([Beat(judge, judge.manager, judge.plan.manager_heartbeat)] if judge.plan.manager_heartbeat else [])
+            self._judge(AwaitedSync(judge))
+        self._judge_all([AwaitedHeartbeat(judge, judge.manager, judge.plan.manager_heartbeat)] if judge.plan.manager_heartbeat else [])
         for node in judge.nodes.values():
-            things = self.things_of(node)
+            awaited = self.awaited_of(node)
             if node.first is None:
-                self._never_seen(node, things)
-            elif not self._is_silent(node, things):
-                self._judge_all(things)
+                self._never_seen(node, awaited)
+            elif not self._is_silent(node, awaited):
+                self._judge_all(awaited)
 
-    def things_of(self, node):
+    def awaited_of(self, node):
         """What comes of a node by itself."""
-        beats = [Beat(self.judge, node, node.planned.heartbeat)] if node.planned.heartbeat else []
-        synced = [SyncedPdo(self.judge, pdo) for pdo in node.pdos.values() if pdo.step and self.judge.sync.period]
-        return beats + synced + [TimedPdo(self.judge, pdo) for pdo in node.pdos.values() if pdo.comes_by_itself()]
+        beats = [AwaitedHeartbeat(self.judge, node, node.planned.heartbeat)] if node.planned.heartbeat else []
+        synced = [AwaitedSyncPdo(self.judge, pdo) for pdo in node.pdos.values() if pdo.step and self.judge.sync.period]
+        return beats + synced + [AwaitedPdo(self.judge, pdo) for pdo in node.pdos.values() if pdo.comes_by_itself()]
 
-    def _is_silent(self, node, things):
+    def _is_silent(self, node, awaited):
         """Whether nothing of a node comes any more since all of it was to begin anew: one finding."""
-        spots = [thing.where()[0] for thing in things if thing.is_absent()]
-        if len(things) < LEAST_SILENT or len(spots) < len(things) or None in spots or node.last_heard().time >= min(spots).time:
+        spots = [each.where()[0] for each in awaited if each.is_absent()]
+        if len(awaited) < LEAST_SILENT or len(spots) < len(awaited) or None in spots or node.last_heard().time >= min(spots).time:
             return False
         spot = min(spots)
         node.tell("silent", [node.number], "nothing of it comes any more", *spot)
         return True
 
-    def _judge_all(self, things):
-        for thing in things:
-            if thing.is_absent():
-                self._judge(thing)
+    def _judge_all(self, awaited):
+        for each in awaited:
+            if each.is_absent():
+                self._judge(each)
 
-    def _judge(self, thing):
-        spot, why = thing.where()
+    def _judge(self, awaited):
+        spot, why = awaited.where()
         if spot:
-            thing.tell(spot)
-        elif not thing.stream.was_seen:
-            self.left.append((thing.name, why))
+            awaited.tell(spot)
+        elif not awaited.stream.was_seen:
+            self.left.append((awaited.name, why))
 
-    def _never_seen(self, node, things):
-        """Reports a node of which nothing came: where the first of its things should have been seen, or its boot-up message."""
-        found = [(thing.where(), thing) for thing in things + [BootUp(self.judge, node)]]
-        spots = [(spot, thing) for (spot, _), thing in found if spot]
+    def _never_seen(self, node, awaited):
+        """Reports a node of which nothing came: where the first of what is awaited of it should have been seen, or its boot-up message."""
+        found = [(each.where(), each) for each in awaited + [AwaitedBoot(self.judge, node)]]
+        spots = [(spot, each) for (spot, _), each in found if spot]
         if not spots:
             self.left.append((self.judge.plan.name(node.number), found[0][0][1]))
             return
-        spot, thing = min(spots, key=lambda each: each[0])
-        text = f"nothing of it comes in all of the log, {milliseconds(self.judge.end - self.judge.begin)}; {thing.planned()}"
+        spot, first = min(spots, key=lambda each: each[0])
+        text = f"nothing of it comes in all of the log, {milliseconds(self.judge.end - self.judge.begin)}; {first.planned()}"
         self.judge.causes.tell_absent("never-seen", [node.number], node.about, text, spot, self._notes(node))
 
     def _notes(self, node):

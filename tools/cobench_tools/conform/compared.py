@@ -8,22 +8,15 @@ def mark_others(windows, sorts, planned):
 
     planned  what the keys of planned lanes have above those of recorded ones
     """
-    ours, theirs = {}, {}
+    ours, theirs = frames_of_both(windows, sorts, planned)
     for window in windows:
-        window["other"], time = [], window["at"]
-        for place, (gap, sort) in enumerate(zip(window["time"], window["sort"])):
-            time += gap
-            if sorts[sort][5:]:
-                continue            # it isn't of the network
-            identifier, lane = sorts[sort][0], sorts[sort][2]
-            (theirs if lane >= planned or window is windows[-1] else ours).setdefault(identifier, []).append((time, window, place))
-    frames = [frame for of_one in theirs.values() for frame in of_one]
-    if not frames:
+        window["other"] = []
+    if not theirs:
         return
-    first, last = min(time for time, _, _ in frames) - REACH, max(time for time, _, _ in frames) + REACH
     begin, end = ends_of(ours)
+    first, last = ends_of(theirs)
     for identifier in {*ours, *theirs}:
-        recorded = [each for each in ours.get(identifier, []) if first <= each[0] <= last]
+        recorded = [each for each in ours.get(identifier, []) if first - REACH <= each[0] <= last + REACH]
         expected = [each for each in theirs.get(identifier, []) if begin - REACH <= each[0] <= end + REACH]
         for _, window, place in without_partner(recorded, expected):
             window["other"].append(place)
@@ -31,9 +24,22 @@ def mark_others(windows, sorts, planned):
         window["other"].sort()
 
 
+def frames_of_both(windows, sorts, planned):
+    """The frames of the network that were recorded, and those that are planned, by identifier: time, window and place each."""
+    ours, theirs = {}, {}
+    for window in windows:
+        time = window["at"]
+        for place, (gap, sort) in enumerate(zip(window["time"], window["sort"])):
+            time += gap
+            identifier, lane, is_foreign = sorts[sort][0], sorts[sort][2], bool(sorts[sort][5:])
+            if not is_foreign:
+                (theirs if lane >= planned or window is windows[-1] else ours).setdefault(identifier, []).append((time, window, place))
+    return ours, theirs
+
+
 def ends_of(frames):
     """The times of the first and the last of the frames of all identifiers."""
-    times = [each[0] for of_one in frames.values() for each in (of_one[0], of_one[-1])]
+    times = [time for of_one in frames.values() for time, _, _ in of_one]
     return min(times, default=0), max(times, default=0)
 
 

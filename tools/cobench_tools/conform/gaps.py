@@ -4,9 +4,9 @@ import bisect
 from ..logs.intake import Block
 from .causes import Spot
 from .plan import milliseconds
+from .tolerance import NEVER
 
 SENDERS = 2
-NEVER = 1 << 62
 
 
 class Gaps:

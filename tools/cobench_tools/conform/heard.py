@@ -5,11 +5,11 @@ is a state of the nodes that are heard alone.
 """
 from ..logs.rows import key_of
 from ..picture import BY_BYTE, BY_SERVICE
+from . import keys
+from .tolerance import NEVER
 
 NOT_HEARD, UNKNOWN = "not heard", "unknown"
-HEARTBEATS, EMERGENCIES, ANSWERS, COMMAND, BOOT_UP = 0x700, 0x080, 0x580, "000#", "00"
 LIFE_GUARD = "3081"
-NEVER = 1 << 62
 
 
 class Heard:
@@ -23,8 +23,7 @@ class Heard:
         self.allowed = {number: self._allowed(node.heartbeat, tolerance) for number, node in plan.nodes.items()}
         self.spans = {number: [] for number in plan.nodes}
         for number in plan.nodes:
-            for base in (HEARTBEATS, EMERGENCIES, ANSWERS):
-                self.senders[key_of(base + number)] = number
+            self.senders.update(dict.fromkeys((keys.heartbeat(number), keys.emergency(number), keys.answer(number)), number))
         for tpdo in plan.wiring.tpdos:
             self.senders.setdefault(key_of(tpdo.identifier), tpdo.node)
 
@@ -39,7 +38,7 @@ class Heard:
         for time, key, data in rows:
             node = senders.get(key)
             if node is None:
-                if key == COMMAND and len(data) == 4:
+                if key == keys.COMMAND and len(data) == 4:
                     self._command(time, data)
                 continue
             of_node = spans[node]
@@ -55,9 +54,9 @@ class Heard:
     @staticmethod
     def _tells(told, time, data):
         """A heartbeat or a boot-up message tells a state."""
-        state = BY_BYTE.get(int(data or "00", 16) & 0x7F, "pre-operational")
-        if data == BOOT_UP or not told or told[-1][1] != state:
-            told.append((time, state, data != BOOT_UP))
+        state = BY_BYTE.get(int(data or keys.BOOT_UP, 16) & 0x7F, "pre-operational")
+        if data == keys.BOOT_UP or not told or told[-1][1] != state:
+            told.append((time, state, data != keys.BOOT_UP))
 
     def _command(self, time, data):
         """A command tells a state of the nodes that are heard."""

@@ -1,11 +1,11 @@
 """Follows the heartbeats of a node: whether they are in time for 1017h and for those who watch it, and which state they tell."""
 from .. import meaning
-from ..boots import BOOT_UP
-from ..logs.rows import key_of
+from . import keys
 from .causes import HEARTBEATS
 from .plan import milliseconds
+from .tolerance import NEVER
 
-NEVER, LOWER, QUICK = 1 << 62, 2, 16
+LOWER, QUICK = 2, 16
 LATE, MISSED = HEARTBEATS
 STATE = 0x7F       # above it node guarding has its toggle bit
 STATE_BYTES = {4: "04", 5: "05", 127: "7F"}
@@ -27,7 +27,7 @@ class Heartbeat:
     """
 
     def __init__(self, judge, node, period):
-        self.judge, self.node, self.key = judge, node, key_of(BOOT_UP + node.number)
+        self.judge, self.node, self.key = judge, node, keys.heartbeat(node.number)
         self.last, self.line, self.expected, self.high, self.at_first = None, 0, "", NEVER, 0
         self.is_beat, self.before, self.low, self.was_seen, self.rested = False, None, 0, False, 0
         self.spare = 2 * judge.plan.duration(16)
@@ -65,7 +65,7 @@ class Heartbeat:
             self._look(time, data, number)
 
     def _look(self, time, data, number):
-        if data == "00":
+        if data == keys.BOOT_UP:
             self.node.boot_up(time, number)
             return
         if self.last is not None and time - self.last > self.high:

@@ -2,7 +2,7 @@
 from ..logs.rows import key_of
 from ..plan import LEAST_IDENTIFIER
 from ..wiring import is_restricted
-from . import emergencies, follow
+from . import emergencies, follow, keys
 from .absence import Absences
 from .besides import Besides
 from .bus import Bus
@@ -18,7 +18,6 @@ from .synced_pdo import follower
 from .unfinished import Unfinished
 
 RESTRICTED = [is_restricted(identifier) for identifier in range(0x800)]
-HEARTBEATS, EMERGENCIES, ANSWERS, REQUESTS = 0x700, 0x080, 0x580, 0x600
 ALL_NODES, COMMUNICATION = 0, 0x81
 
 
@@ -67,13 +66,13 @@ class Judge:
     def _connect(self):
         """Gives each key its follower."""
         handlers = self.handlers
-        handlers["000#"], handlers["080#"] = self.command, self.sync.take
-        handlers[key_of(HEARTBEATS + self.plan.manager)] = self.manager.heartbeat.take
+        handlers[keys.COMMAND], handlers[keys.SYNC] = self.command, self.sync.take
+        handlers[keys.heartbeat(self.plan.manager)] = self.manager.heartbeat.take
         for number, node in self.nodes.items():
-            handlers[key_of(HEARTBEATS + number)] = node.heartbeat.take
-            handlers[key_of(EMERGENCIES + number)] = self._emergency_of(node)
-            handlers[key_of(ANSWERS + number)] = node.talk.answer
-            handlers[key_of(REQUESTS + number)] = node.talk.request
+            handlers[keys.heartbeat(number)] = node.heartbeat.take
+            handlers[keys.emergency(number)] = self._emergency_of(node)
+            handlers[keys.answer(number)] = node.talk.answer
+            handlers[keys.request(number)] = node.talk.request
         shared = {}
         for tpdo in self.plan.wiring.tpdos:
             shared.setdefault(tpdo.identifier, []).append(follower(self, self.nodes[tpdo.node], tpdo))
@@ -163,14 +162,14 @@ class Judge:
         """A command of the network management came."""
         if len(data) != 4:
             return
-        self.landmark("000#", data, time)
+        self.landmark(keys.COMMAND, data, time)
         service, target = bytes.fromhex(data)
         for node in self.nodes.values() if target == ALL_NODES else filter(None, [self.nodes.get(target)]):
             node.command(service, time, number)
 
     def landmark(self, key, data, time):
         """A boot-up message or a command came."""
-        if self.is_power_on is None and key != "000#":
+        if self.is_power_on is None and key != keys.COMMAND:
             self.is_power_on = self.active_since is None
         self.startup.landmark(key, data, time)
         self.causes.landmark(key, data, time, time if self.active_since is None else self.active_since,
@@ -204,7 +203,7 @@ class Judge:
         """What takes the frames of a key that the plan doesn't have."""
         identifier = int(key[:3], 16)
         node, service = identifier & 0x7F, identifier & 0x780
-        if node and node != self.plan.manager and (service in (HEARTBEATS, ANSWERS) or service == EMERGENCIES and identifier > EMERGENCIES):
+        if node and node != self.plan.manager and service in (keys.HEARTBEATS, keys.ANSWERS, keys.EMERGENCIES):
             return self._stranger(node)
         if identifier >= LEAST_IDENTIFIER and not RESTRICTED[identifier]:
             return self.strays.taker(identifier)

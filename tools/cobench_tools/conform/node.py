@@ -1,7 +1,6 @@
 """Follows a node: its boots, its state, and whether it is there at all."""
-from ..boots import BOOT_UP
-from ..logs.rows import key_of
 from ..wiring import TPDO, pdo_of
+from . import keys
 from .boot import Boot
 from .causes import Spot
 from .heartbeat import STATE_BYTES, Heartbeat, state_name
@@ -87,8 +86,8 @@ class Node(Presence):
 
     def boot_up(self, time, line):
         """Its boot-up message came."""
-        self.judge.landmark(key_of(BOOT_UP + self.number), "00", time)
-        self.first_state = self.first_state or (time, "00")
+        self.judge.landmark(keys.heartbeat(self.number), keys.BOOT_UP, time)
+        self.first_state = self.first_state or (time, keys.BOOT_UP)
         self.first_boot = self.first_boot or Spot(time, line)
         period, is_expected = self.planned.at_first, self.first is None or self.is_reset or self.may_have_booted
         if is_expected:

@@ -5,8 +5,7 @@ What costs is done for each frame: so a frame that comes as the one before it di
 from .. import device
 from ..logs.rows import key_of
 from .plan import milliseconds
-
-NEVER = 1 << 62
+from .tolerance import NEVER
 
 
 class Pdo:

@@ -4,6 +4,7 @@ from ..evidence import Evidence
 from ..logs.rows import key_of
 from ..traffic import plain_bits
 from ..wiring import RPDO, TPDO, Wiring, pdo_of
+from . import keys
 
 UNSIGNED = {0x05: 1, 0x06: 2, 0x07: 4}
 IDENTITY = ((0x1000, 0), (0x1018, 1), (0x1018, 2), (0x1018, 3), (0x1018, 4))
@@ -86,7 +87,7 @@ class Plan:
         for time, key, data in self.frames:
             if is_landmark(key, data):
                 self.landmarks.setdefault((key, data), []).append(time)
-            elif key == "080#" and self.first_sync is None:
+            elif key == keys.SYNC and self.first_sync is None:
                 self.first_sync = time
             self.sent.setdefault(key, []).append((time, data))
         self.consumers = {}
@@ -191,7 +192,7 @@ class Plan:
 
 def is_landmark(key, data):
     """Whether a frame is a boot-up message or a command."""
-    return key == "000#" or "701#" <= key <= "77F#" and data == "00"
+    return key == keys.COMMAND or "701#" <= key <= "77F#" and data == keys.BOOT_UP
 
 
 def milliseconds(time):

@@ -23,28 +23,38 @@ def judged(plan, log, tolerance, window=None, most=None, is_exact=False, also=()
     """The judge of a log that has taken all of it; `also` takes each block too."""
     judge = Judge(plan, tolerance, Causes(plan, planned_causes(plan, tolerance, window), tolerance), window, is_exact)
     tolerance.coarse = 0
-    progress = Progress(log)
-    gc.disable()
-    try:
-        for block in log.blocks():
-            if log.format.resolution > tolerance.coarse + 1:
-                tolerance.coarse = log.format.resolution
-                judge.tolerate()
-            if block.set_back:
-                tell_set_back(judge, block.set_back)
-            judge.take(block)
-            for each in also:
-                each.take(block)
-            progress.step()
-    finally:
-        gc.enable()
-        progress.end()
+    take_all(judge, log, also)
     judge.finish()
     if log.cut:
         judge.causes.tell("cut", ["log"], ("log",), "the recording is cut here; what is before it is judged", judge.end, log.cut)
     if most is not None and log.has_times:
         tell_load(judge, most)
     return judge
+
+
+def take_all(judge, log, also):
+    """Has a judge take the blocks of a log. No garbage is looked for meanwhile, as next to none goes in circles."""
+    progress = Progress(log)
+    gc.disable()
+    try:
+        for block in log.blocks():
+            take(judge, log, block)
+            for each in also:
+                each.take(block)
+            progress.step()
+    finally:
+        gc.enable()
+        progress.end()
+
+
+def take(judge, log, block):
+    """Has a judge take a block of a log, the times of which may turn out to be coarser than before, and the clock set back."""
+    if log.format.resolution > judge.tolerance.coarse + 1:
+        judge.tolerance.coarse = log.format.resolution
+        judge.tolerate()
+    if block.set_back:
+        tell_set_back(judge, block.set_back)
+    judge.take(block)
 
 
 def tell_set_back(judge, set_back):

@@ -1,9 +1,8 @@
 """Follows SDO transfers between the manager and a node: what is written and read, and how it ends."""
 from .. import meaning
-from ..logs.rows import key_of
+from . import keys
 
 WRITE, READ = "write", "read"
-ANSWERS = 0x580
 
 
 class Transfer:
@@ -38,7 +37,7 @@ class Talk:
     def __init__(self, boot, node):
         self.boot, self.node, self.open, self.is_last = boot, node, None, False
         self.is_left = False
-        self.time, self.said, self.key = 0, "", key_of(ANSWERS + node.number)
+        self.time, self.said, self.key = 0, "", keys.answer(node.number)
 
     def forget(self):
         """The open transfer is over without an answer."""

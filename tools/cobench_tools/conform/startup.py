@@ -2,6 +2,7 @@
 import bisect
 from array import array
 
+from . import keys
 from .causes import Spot
 
 RESETS_OF_ALL = "8100", "8200"
@@ -55,11 +56,11 @@ class Startup:
             self.is_slow |= data in RESETS_OF_ALL and not self.is_seen
             return
         self.known.add((key, data))
-        if key != "000#":
+        if key != keys.COMMAND:
             self.is_reordered |= planned[0] < self.booted
             self.booted = planned[0]
         if self.anchor is None:
-            self.anchor, self.nth = (time, planned[0]), (-1 if key == "000#" else 0)
+            self.anchor, self.nth = (time, planned[0]), (-1 if key == keys.COMMAND else 0)
         elapsed = planned[self.nth] - self.anchor[1]
         self.is_slow |= time - self.anchor[0] > elapsed + PACE + max(elapsed, 0) // 4
 

@@ -1,10 +1,11 @@
 """Follows SYNC: its period and its counter, and the numbers by which synchronous TPDOs are counted."""
 from collections import deque
 
+from . import keys
 from .causes import Spot
 from .plan import milliseconds
 
-ABOUT, KEY = ("manager",), "080#"
+ABOUT = ("manager",)
 KEPT, LOOKED_AT = 2048, 8
 FIRST = 1024
 
@@ -22,7 +23,7 @@ class Sync:
     paused  from when on it isn't known when the next one comes, None where it is
     """
 
-    key, rested, was_seen = KEY, 0, False
+    key, rested, was_seen = keys.SYNC, 0, False
 
     def __init__(self, judge):
         self.judge, self.period, self.modulus = judge, judge.plan.sync, judge.plan.counter
@@ -219,6 +220,6 @@ class Sync:
         if not self.period:
             return
         if self.last is not None and end > self.last + self.high + self.allowed + self.period // 2:
-            if self.judge.bus.waits_since(KEY, self.last + self.period) > self.last + self.high:
+            if self.judge.bus.waits_since(self.key, self.last + self.period) > self.last + self.high:
                 self._tell("sync-missing", f"none comes any more; the period is {milliseconds(self.period)}",
                            *self.judge.spot(self.last + self.high), [(self.line, "the last one")])

@@ -1,6 +1,7 @@
 """Follows TPDOs that SYNC sends: at which SYNC they come, and within which window behind it."""
-from .pdo import NEVER, EventPdo, Pdo
+from .pdo import EventPdo, Pdo
 from .plan import milliseconds
+from .tolerance import NEVER
 
 
 class SyncedPdo(Pdo):

@@ -2,6 +2,9 @@
 JITTER, CLOCK = 500, 200
 SHARE_OF_PERIOD = 8
 
+# Microseconds after which nothing comes in any log.
+NEVER = 1 << 62
+
 
 class Tolerance:
     """How far times may be off: by `jitter` microseconds each, and by `clock` parts of a million of what is measured.

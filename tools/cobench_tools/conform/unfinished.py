@@ -1,9 +1,7 @@
 """Boots that aren't over at the end of a log, and those that never began."""
-from ..logs.rows import key_of
+from . import keys
 from .plan import milliseconds
 from .startup import LONG
-
-HEARTBEATS, ANSWERS = 0x700, 0x580
 
 # Within these microseconds two times are the same.
 SAME = 50
@@ -42,11 +40,12 @@ class Unfinished:
 
     def _comes_as_planned(self, node):
         """Whether a node is heard first when it is heard behind its boot-up message in the planned run, and is started in the log."""
-        beats, answers = key_of(HEARTBEATS + node.number), key_of(ANSWERS + node.number)
-        if (beats, "00") not in self.plan.landmarks or node.was_operational() and not node.is_started:
+        beats, answers = keys.heartbeat(node.number), keys.answer(node.number)
+        if (beats, keys.BOOT_UP) not in self.plan.landmarks or node.was_operational() and not node.is_started:
             return False
-        keys = [beats, answers] + [pdo.key for pdo in node.pdos.values()]
-        planned = min((time for key in keys for time, data in self.plan.sent.get(key, ()) if (key, data) != (beats, "00")), default=None)
+        sent = [(time, key, data) for key in [beats, answers] + [pdo.key for pdo in node.pdos.values()]
+                for time, data in self.plan.sent.get(key, ())]
+        planned = min((time for time, *frame in sent if frame != [beats, keys.BOOT_UP]), default=None)
         since = node.first.time - self.judge.causes.alignment.offset
         return planned is not None and abs(since - planned) <= 2 * self.judge.tolerance.jitter
 
@@ -60,7 +59,7 @@ class Unfinished:
     def _is_awaited(self, node):
         """Whether the boot of a node has to go on: the planned run starts it, the manager is there, and nobody boots any more."""
         number, startup, since = node.number, self.judge.startup, node.last_boot.time
-        is_planned = any(("000#", f"01{target:02X}") in self.plan.landmarks for target in (number, 0))
+        is_planned = any((keys.COMMAND, f"01{target:02X}") in self.plan.landmarks for target in (number, 0))
         heard = [self.judge.sync.last, self.judge.manager.heartbeat.last]
         is_there = any(time is not None and time > since for time in heard) or not (self.plan.sync or self.plan.manager_heartbeat)
         return is_planned and is_there and self.judge.end - max(startup.latest, since) > LONG
