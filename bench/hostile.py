@@ -12,15 +12,36 @@ Takes the path of the program, and names of kinds, or none for all:
              to ten seconds; with 1 and with 16 TPDOs a node
   crowded    the same with 512 TPDOs a node, each of which is on, to 20 and to 40 milliseconds
 
+and the inputs of worst_inputs.py, which are short beside what they ask for:
+
+  keys       a data sheet of 16,384 keys that somebody chose to fall into one part of a table: at most three times
+             as long as one of any keys
+  long       16 arrays whose default, and for a `trace` whose limits too, are formulas as long as a line can be, for
+             126 nodes: at most three times as long as with formulas of a few digits
+  sheets     126 nodes whose data sheet is replaced 100 times, with a `trace` behind each: at most 64 MiB
+  events     10,000 events with texts of 500 bytes, one of which changes 200 times, with a `trace` behind each: at
+             most 256 MiB
+  first      an event of the first moment that changes 3,000 times, with a `trace` behind each: the last 500 turns
+             take at most 1.2 times as long as the second 500
+  flip       an event that takes one of two forms by turns, 20 times, with a `trace` of ten seconds behind each: a
+             turn takes at most 1.2 times as long as the first one
+  moved      126 nodes that have a data sheet of 65,536 lines in turn, which is dropped again: at most 64 MiB
+  unused     63 data sheets of 60,000 lines that no node has: 50 turns of an edit and `diag` take at most a tenth of
+             reading them
+
 Prints the seconds of the processor and the peak memory, and asserts that each run ends with status 0, at most 2 GiB,
 and what is said at each kind. Where a kind has two sizes, twice the size may take at most three times the seconds.
+Of what is compared by time the least of some runs counts.
 Run it from anywhere: bench/hostile.py crates/cobench/out/cobench
 """
+import contextlib
 import importlib.util
+import io
 import os
 import re
 import sys
 
+import worst_inputs
 from measured import session
 
 MEMORY = 2 << 30
@@ -206,7 +227,101 @@ def crowded(program):
     return good
 
 
-KINDS = {"bytes": bytes_everywhere, "replaced": replaced, "gone": gone, "largest": largest, "busiest": busiest, "crowded": crowded}
+# ---- the inputs of worst_inputs.py
+
+ROUNDS, SLOWER, LONGER = 5, 1.2, 3
+
+
+def is_answered(replies):
+    """Whether each command has a reply, and none is refused."""
+    heads = replies_only(replies)
+    return heads is not None and not any(head.startswith(b"refused") for head in heads)
+
+
+def least(program, *inputs):
+    """The least seconds of some runs of each of these inputs, by turns; the most memory, and whether all is answered."""
+    seconds, peak, right = [float("inf")] * len(inputs), 0, True
+    for _ in range(ROUNDS):
+        for place, pieces in enumerate(inputs):
+            took, kib, replies = run(program, pieces)
+            seconds[place], peak, right = min(seconds[place], took), max(peak, kib), right and is_answered(replies)
+    return seconds, peak, right
+
+
+def compared(program, name, most, worse, better):
+    """Whether an input takes at most so many times as long as another one."""
+    (slow, fast), kib, right = least(program, worse, better)
+    return told(name, slow, kib, right and slow <= most * fast, times(slow, fast))
+
+
+def times(slow, fast):
+    """How many times as long one takes as another, in words."""
+    return f"{slow / max(fast, 1e-9):.2f} times {fast * 1000:.2f} ms"
+
+
+def within(program, name, pieces, mebibytes):
+    """Whether an input is answered in so much memory."""
+    seconds, kib, replies = run(program, pieces)
+    return told(name, seconds, kib, is_answered(replies) and kib <= mebibytes << 10, f"at most {mebibytes} MiB")
+
+
+def keys(program):
+    count = 16_384
+    return compared(program, "keys", LONGER, worst_inputs.keys(count, True), worst_inputs.keys(count, False))
+
+
+def long(program):
+    good = True
+    for query, with_one in (("diag", ["DefaultValue"]), ("trace", ["DefaultValue", "LowLimit", "HighLimit"])):
+        pieces = [worst_inputs.formulas(digits, with_one, query) for digits in (worst_inputs.LONGEST, 20)]
+        good = compared(program, f"long, {query}", LONGER, *pieces) and good
+    return good
+
+
+def sheets(program):
+    return within(program, "sheets", worst_inputs.sheets(100), 64)
+
+
+def events(program):
+    return within(program, "events", worst_inputs.events(200), 256)
+
+
+def first(program):
+    """The last 500 of 3,000 turns beside the second 500, each as what they add to a session."""
+    (one, two, three, four), kib, right = least(program, *map(worst_inputs.first_event, (500, 1000, 2500, 3000)))
+    early, late = two - one, four - three
+    return told("first", four, kib, right and late <= SLOWER * early, times(late / 500, early / 500))
+
+
+def flip(program):
+    turns = 20
+    (none, one, all_of_them), kib, right = least(program, *map(worst_inputs.flips, (0, 1, turns)))
+    start, further = one - none, (all_of_them - one) / (turns - 1)
+    return told("flip", all_of_them, kib, right and further <= SLOWER * start, times(further, start))
+
+
+def moved(program):
+    return within(program, "moved", worst_inputs.moved(), 64)
+
+
+def unused(program):
+    (reading, whole), kib, right = least(program, worst_inputs.unused(0), worst_inputs.unused(50))
+    return told("unused", whole, kib, right and whole - reading <= reading / 10, f"{(whole - reading) * 20:.3f} ms a turn")
+
+
+KINDS = {"bytes": bytes_everywhere, "replaced": replaced, "gone": gone, "largest": largest, "busiest": busiest, "crowded": crowded,
+         "keys": keys, "long": long, "sheets": sheets, "events": events, "first": first, "flip": flip, "moved": moved, "unused": unused}
+QUICK = "keys", "long"      # those that take under two seconds
+
+
+def check(program, name, _library):
+    """For `checks`: whether a kind is right, and what it says."""
+    with contextlib.redirect_stdout(io.StringIO()) as said:
+        try:
+            is_right = KINDS[name](program)
+        except SystemExit as why:
+            return False, f"not checked: {why}"
+    return is_right, " ".join(said.getvalue().split())
 
 
 def main():
