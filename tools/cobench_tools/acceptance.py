@@ -4,12 +4,14 @@ import re
 from . import tool
 from .findings import ERROR
 
-HELP = """A finding is accepted by the words that say which it is: those of the line of
+ACCEPTED = """A finding is accepted by the words that say which it is: those of the line of
 `diag`, as 'E02 default 5 2000 00', or the code and the subject of another, as
 'refused param 3', 'failed 5', 'emergency 1 8130', 'pdo-values servo'. The first
-words will do: 'E02 default 5' accepts all of that node. An accepted finding isn't
-told, and counts for no status. One FILE serves all commands: what is accepted for
-another one is passed over."""
+words will do: 'E02 default 5' accepts all of that node."""
+
+HELP = f"""{ACCEPTED} An accepted finding isn't
+reported, and counts for no status. One FILE serves all commands: what is accepted
+for another one is passed over."""
 
 # Which commands find what: all that run cobench; check and export; check --files; eds; load; conform; bus.
 PLAN = frozenset("refused failed unconfigured pdo-values emergency not-operational never-sent".split())
@@ -41,23 +43,37 @@ class Rule:
         return code in KNOWN and code not in codes or bool(DIAGNOSTIC.fullmatch(code)) and not codes >= PLAN
 
 
-def add_arguments(parser):
-    """The words that accept findings, and that make errors of warnings."""
+def add_allowed(parser):
+    """The words that accept findings."""
     parser.add_argument("--allow", metavar="WORDS", action="append", default=[], help="accept findings; can be repeated")
     parser.add_argument("--allow-from", metavar="FILE", help="accept the findings of this file, one a line; # begins a comment")
+
+
+def add_arguments(parser):
+    """The words that accept findings, and that make errors of warnings."""
+    add_allowed(parser)
     parser.add_argument("--werror", action="store_true", help="take warnings for errors")
 
 
-def rules_of(options):
+def rules_of(options, read_text=tool.read_text):
     """The rules that the words of a command give."""
     rules = [Rule(words) for words in options.allow]
     if options.allow_from:
-        for number, line in enumerate(tool.read_text(options.allow_from).split(b"\n"), 1):
+        for number, line in enumerate(read_text(options.allow_from).split(b"\n"), 1):
             text = tool.shown(line.split(b"#")[0]).strip()
             rules += [Rule(text, tool.Place(options.allow_from, number))] if text else []
     if not all(rule.words for rule in rules):
         raise tool.Fault("--allow has no words")
     return rules
+
+
+def mark(findings, rules):
+    """Marks those of some findings that rules accept."""
+    for finding in findings:
+        matching = [rule for rule in rules if rule.accepts(finding)]
+        finding.accepted = bool(matching)
+        for rule in matching:
+            rule.is_used = True
 
 
 def judge(findings, options, codes=PLAN):
@@ -66,11 +82,8 @@ def judge(findings, options, codes=PLAN):
     codes  what the command may find besides diagnostics: a rule of another code is another command's
     """
     rules = rules_of(options)
+    mark(findings, rules)
     for finding in findings:
-        matching = [rule for rule in rules if rule.accepts(finding)]
-        finding.accepted = bool(matching)
-        for rule in matching:
-            rule.is_used = True
         if options.werror and not finding.accepted:
             finding.severity = ERROR
     for rule in rules:

@@ -9,8 +9,8 @@ TIMELINE_SCRIPTS = ("elements.js", "timeline_trace.js", "timeline_scale.js", "ti
                     "timeline_flags.js", "timeline_paint.js", "timeline_signals.js", "timeline_cursors.js", "timeline_tips.js",
                     "timeline_gestures.js", "timeline_toolbar.js", "timeline.js")
 TIMELINE_STYLES = ("design.css", "timeline.css")
-LIVE_SCRIPTS = TIMELINE_SCRIPTS + ("live_items.js", "live_tabs.js", "live_tables.js", "live_wrong.js", "live_nodes.js",
-                                   "live_run.js", "live_ledger.js", "live.js")
+LIVE_SCRIPTS = TIMELINE_SCRIPTS + ("live_items.js", "live_changes.js", "live_tabs.js", "live_tables.js", "live_wrong.js",
+                                   "live_nodes.js", "live_run.js", "live_about.js", "live_address.js", "live.js")
 LIVE_STYLES = TIMELINE_STYLES + ("live.css",)
 
 

@@ -1,5 +1,5 @@
 """The page of a network: its tables, and each message drawn bit by bit."""
-from . import matrix, receiver_names
+from . import matrix, papers, receiver_names
 from .page import page_of
 from .safe_text import markup
 from .tables import Table, html_section, html_table
@@ -46,7 +46,7 @@ def signals_section(network):
     return f"<section>\n<h2>Signals</h2>\n{messages or '<p>None.</p>'}</section>\n"
 
 
-def network_page(heading, network, wanted=None):
-    """The page of a network, or of the wanted table alone."""
-    return page_of(heading, [signals_section(network) if table.key == "signals" else html_section(table)
-                             for table in matrix.tables_of(network, wanted)])
+def network_page(heading, report, network, wanted=None):
+    """The page of a network, with what is wrong with it, or of the wanted table alone."""
+    shown = [signals_section(network) if table.key == "signals" else html_section(table) for table in matrix.tables_of(network, wanted)]
+    return page_of(heading, [papers.wrong_section(report)] + shown)

@@ -41,11 +41,12 @@ class Meaning:
     subject  the message, PDO or object that it is of
     text     all of it but time and identifier
     parts    of a PDO whose mapping is known, the label, bits and data type of each value, else None
+    first    of SDO the text with what is read or written before the entry's name, else the text
     """
 
-    def __init__(self, kind, sender, node, subject, text, parts=None):
+    def __init__(self, kind, sender, node, subject, text, parts=None, first=None):
         self.kind, self.sender, self.node, self.subject, self.text = kind, sender, node, subject, text
-        self.parts = parts
+        self.parts, self.first = parts, first or text
 
 
 class Pdo:
@@ -152,9 +153,6 @@ class Network:
         if node == self.manager:
             return "manager"
         return self.names.get(node, f"node {node}")
-
-    def object_text(self, node, key):
-        return f"{key[0]:04X}h:{key[1]:02X}" + self.name_text(node, key)
 
     def name_text(self, node, key):
         """The name of an entry behind a blank, where names are wanted and it has one."""
@@ -287,9 +285,9 @@ class Network:
     # SDO: the manager's requests, and a node's answers.
 
     def sdo(self, sender, node, key, what):
-        subject = self.object_text(node, key) if key else ""
-        text = f"{subject} {what}".strip()
-        return Meaning(SDO, sender, node, subject, f"{self.name(node)} {text}")
+        place, name = (device.object_name(key), self.name_text(node, key)) if key else ("", "")
+        text, first = f"{place}{name} {what}".strip(), f"{place} {what}".strip() + (f" ({name[1:]})" if name else "")
+        return Meaning(SDO, sender, node, place + name, f"{self.name(node)} {text}", first=f"{self.name(node)} {first}")
 
     def request(self, node, data):
         def said(what):

@@ -34,11 +34,11 @@ def report_of(options, answered, more=(), codes=frozenset()):
 
 
 def wired(options):
-    """The network of SCRIPT, and the status, once its errors were told."""
+    """The network of SCRIPT, and what is wrong with it, once its errors were told."""
     answered = asked(options)
     report = report_of(options, answered)
     tell([each for each in report.open if each.severity == findings.ERROR])
-    return Wiring(answered), report.status
+    return Wiring(answered), report
 
 
 def tell(found):

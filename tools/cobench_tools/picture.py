@@ -58,7 +58,7 @@ class Sorts:
 def text_of(said):
     """What all frames of a sort say: of a PDO its subject, and the parts of its values, None where they aren't known."""
     if said.kind != meaning.PDO:
-        return safe_text.readable(said.text)
+        return safe_text.readable(said.first)
     parts = said.parts and tuple((label, bits, form_of(kind)) for label, bits, kind in said.parts)
     return said.subject, parts
 

@@ -10,6 +10,7 @@ from .forms import FORMS
 from .hints import Hints
 from .logs import part
 from .project import Project
+from .report import Report
 from .script import Command
 from .reader import Reader
 
@@ -29,12 +30,13 @@ class Shown:
     project  the project that it is of, None where that isn't known
     bit      the microseconds of a bit
     end      the last moment
-    status   that of the command
+    report   what is wrong with the script that it is of, None where cobench wasn't run on one; and the status by it
     plan     what is planned, where it is a recording
     """
 
-    def __init__(self, lines: List[trace.Line], project: Optional[Project], status: int = tool.DONE, plan: Optional[Plan] = None) -> None:
-        self.lines, self.project, self.status, self.plan = lines, project, status, plan
+    def __init__(self, lines: List[trace.Line], project: Optional[Project], report: Optional[Report] = None, plan: Optional[Plan] = None) -> None:
+        self.lines, self.project, self.report, self.plan = lines, project, report, plan
+        self.status: int = report.status if report else tool.DONE
         self.bit = plan.bus_bit if plan else trace.bit_time(lines, project)
         self.end = max(project.horizon if project and not plan else 0, lines[-1].time)
 
@@ -87,7 +89,7 @@ def simulated(path: str, options: argparse.Namespace) -> Shown:
     lines = trace.of_answer(answered.lines("trace"))
     if not lines:
         raise tool.Fault(f"{tool.name_of(path)}: its trace has no lines")
-    return Shown(lines, answered.project, status_of(answered, options))
+    return Shown(lines, answered.project, report_of(answered, options))
 
 
 def recorded(path: Optional[str], options: argparse.Namespace) -> Shown:
@@ -99,14 +101,14 @@ def recorded(path: Optional[str], options: argparse.Namespace) -> Shown:
     plan = recording.plan_of(argparse.Namespace(script=path, cobench=options.cobench, trace=options.trace), log)
     if options.bitrate:
         plan.bus_bit = 1000 // options.bitrate
-    return Shown(recording.lines_of(log), plan.project, status_of(plan.answered, options), plan)
+    return Shown(recording.lines_of(log), plan.project, report_of(plan.answered, options), plan)
 
 
-def status_of(answered: session.Session, options: argparse.Namespace) -> int:
-    """The status of what is shown of a session, once its errors were told."""
+def report_of(answered: session.Session, options: argparse.Namespace) -> Report:
+    """What is wrong with a session of which something is shown, once its errors were told."""
     report = network.report_of(options, answered)
     network.tell([each for each in report.open if each.severity == findings.ERROR])
-    return report.status
+    return report
 
 
 def whole(commands: Sequence[Command]) -> Project:

@@ -211,6 +211,10 @@ class Page:
                 file.write(data)
         return data
 
+    def pdf(self):
+        """The page as it is printed, by its own size of paper."""
+        return base64.b64decode(self.ask("Page.printToPDF", preferCSSPageSize=True, printBackground=True)["data"])
+
     # Mouse, keys and fingers.
 
     def mouse(self, kind, x, y, **more):
@@ -238,7 +242,7 @@ class Page:
         self.settle()
 
     def key(self, name, code=0):
-        text = name if len(name) == 1 else ""
+        text = name if len(name) == 1 else "\r" if name == "Enter" else ""
         self.ask("Input.dispatchKeyEvent", type="keyDown", key=name, text=text, windowsVirtualKeyCode=code)
         self.ask("Input.dispatchKeyEvent", type="keyUp", key=name, windowsVirtualKeyCode=code)
         self.settle()

@@ -6,7 +6,7 @@ import io
 import os
 import re
 
-from helper import EXAMPLES, ROOT, example, file, is_fine, kept, recorded, run, session
+from helper import EXAMPLES, ROOT, example, file, is_fine, kept, put, recorded, run, session
 
 from cobench_tools import concise
 from cobench_tools.main import COMMANDS
@@ -65,6 +65,27 @@ def test_from_plan_to_machine_has_what_its_commands_tell():
             answers += 1
     assert answers == 3 and file("run.html").decode().count("pdo-swapped")
     assert "[late]" not in told("load", "--allow", "refused", "--assume", "20000", "--window", "5000", "examples/servo_axes.txt")
+
+
+def test_a_day_edits_the_example():
+    """Each command of the page is run as it stands, but for `live`; each edit is one of a line of the example, and the slip is told as there."""
+    text, script = page("docs", "a_day_with_cobench.md"), file(EXAMPLES, "network.txt").decode()
+    edits = re.findall(r"`([^`]+)` (?:becomes|has become) `([^`]+)`", text)
+    assert len(edits) == 3 and all(script.count(old + "\n") == 1 for old, _ in edits), edits
+    blocks = blocks_of(text)
+    commands = [line for block in blocks for line in block.splitlines() if line.startswith("tools/cobtool ")]
+    assert commands[0] == "tools/cobtool live --open examples/network.txt" and len(commands) == 5
+    for command in commands[1:]:
+        said = told(*command.partition(" > ")[0].split()[1:])
+        assert "error" not in said.split("no errors")[0] or "<html" in said, (command, said)
+    slip = next(block for block in blocks if "[E09]" in block)
+    for name in ("servo_drive.eds", "digital_io.eds", "rotary_encoder.eds", "plc.eds"):
+        os.symlink(os.path.join(EXAMPLES, name), name)
+    put("network.txt", script.replace(*edits[1]).encode())
+    assert told("check", "network.txt").startswith(slip)
+    for old, changed in (edits[0], edits[2]):
+        put("network.txt", script.replace(old, changed).encode())
+        assert told("check", "network.txt").startswith("no errors, no warnings; 4 of 4 nodes booted")
 
 
 def test_from_plan_to_machine_has_the_columns_of_the_load():

@@ -142,8 +142,8 @@ def test_what_is_wrong_is_told_as_check_does():
     with Scene() as scene:
         scene.change(b"param 5 6080 0 4000", b"param 5 6080 0 7000\nparam 9 1017 0 1")
         found = [(each["line"], each["code"], each["text"]) for each in scene.items["wrong"]["findings"]]
-        assert found == [(8, "refused", "param 9 1017 0 1: refused 4 Unknown: node 9 isn't there; there are: 5, 6"),
-                         (7, "E03", "6080h:00 Max motor speed: 7000 is above the HighLimit 6000 (drive.eds:52)")], found
+        assert found == [(7, "E03", "6080h:00 Max motor speed: 7000 is above the HighLimit 6000 (drive.eds:52)"),
+                         (8, "refused", "param 9 1017 0 1: refused 4 Unknown: node 9 isn't there; there are: 5, 6")], found
         assert scene.status() == ("well", "1 command was refused: this is what the others make")
         assert scene.items["wrong"]["diagnostics"] == ["E03 param 5 6080 00"]
         assert value(scene.items, 5, "6080h:00")[1:] == ["-", "4000 (FA0h)"], "what isn't written any more is shown as it was"

@@ -6,10 +6,12 @@ import shlex
 import sys
 from unittest import mock
 
-from cobench_tools import safe_text, session, tool
-from cobench_tools.live import follow, programs
+from cobench_tools import judgement, safe_text, session, tool
+from cobench_tools.live import answers, follow, programs
 from cobench_tools.live.feed import Feed
 from cobench_tools.live.follow import Follower
+from cobench_tools.report import json_of
+from cobench_tools.script_order import ScriptOrder
 from helper import in_parallel, kept_at, put, real
 from histories import history
 from live_scene import sorts_of, trace_of, window_of
@@ -55,8 +57,8 @@ def without_marks(items):
         if name.startswith("node/"):
             item = {**item, "marks": [], "isNew": False, "values": [row[:3] for row in item["values"] if row[2] != "-"]}
         if name.startswith("table/"):
-            item = {**item, "marks": []}
-        if name.startswith(("node/", "table/", "wrong")):
+            item = {**item, "marks": [], "was": {}, "gone": []}
+        if name.startswith(("node/", "table/", "wrong")) and (name != "table/left-out" or item["rows"]):
             found[name] = item
     return found
 
@@ -71,6 +73,9 @@ def is_what_cobench_answers(items, follower, program):
         assert follower.saved(f"{node}.dcf")[0] == dcf and items[f"node/{node}"]["dcf"] == [safe_text.readable(tool.shown(line)) for line in dcf.splitlines()]
         assert items[f"node/{node}"]["bytes"] == b"".join(answered.lines("cdcf", node)).replace(b" ", b"").decode()
     assert trace_of(items) == [line.decode() for line in answered.lines("trace")]
+    found = ScriptOrder(answered.pairs).sorted(judgement.of_check(answered))
+    if len(answered.lines("trace")) <= answers.MOST_LINES:
+        assert items["wrong"]["findings"] == [json_of(each) for each in found], "what check says"
     refused = sum(not reply.is_accepted() for _, reply in answered.pairs)
     told = [1 + len(each["notes"]) for each in items["wrong"]["findings"] if each["code"] == "refused"]
     assert sum(told) == refused or max(told) > 8 and sum(told) < refused

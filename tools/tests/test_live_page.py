@@ -2,66 +2,15 @@
 import contextlib
 import os
 import re
-import subprocess
-import sys
 
-from browser import Browser
-from helper import COBTOOL, put
-from live_scene import HOLD, LONG, Scene, long_words, words
+from helper import put
+from live_opened import opened, text
+from live_scene import HOLD, LONG, Scene, long_words
 
 NEW = b"param 5 1017 0 50"
 IS_PART = "live.items.get('run') && live.items.get('run').known === 999999"
 PLACES = """JSON.stringify(['header', '#tabs', '#parts', '#tab-run', '.timeline .view', '.timeline .corner', '.timeline .lanes'].map(each =>
     (({ x, y }) => [x, y])(document.querySelector(each).getBoundingClientRect())))"""
-
-
-class Opened:
-    """A program `cobtool live` over the script of a scene, and a page of it in a browser."""
-
-    def __init__(self, browser, scene=None, program=None, **more):
-        self.scene, self.browser = scene or Scene(), browser
-        program = " ".join(program or words())
-        self.program = subprocess.Popen([sys.executable, COBTOOL, "live", "--port", "0", "--cobench", program, self.scene.script],
-                                        stdout=subprocess.PIPE)
-        self.address = re.match(rb"(http://127.0.0.1:[0-9]+/\S*) ", self.program.stdout.readline()).group(1).decode()
-        self.page = self.another(**more)
-
-    def another(self, wide=1280, high=800, **more):
-        """A page, once it shows the first look."""
-        page = self.browser.page(wide, high, **more)
-        page.open(self.address)
-        page.wait("live.items.get('ledger') && live.items.get('status').state === 'well'")
-        page.settle()
-        return page
-
-    def save(self, old, new):
-        """Saves the script with a change, and waits until the page has what comes of it."""
-        saves = self.page.value("live.items.get('ledger').length")
-        text = self.scene.text()
-        assert old in text, old
-        put(self.scene.script, text.replace(old, new))
-        self.page.wait(f"live.items.get('ledger').length > {saves} && live.items.get('status').state === 'well'")
-        self.page.settle()
-
-    def close(self):
-        self.program.terminate()
-        self.program.communicate(timeout=60)
-
-
-@contextlib.contextmanager
-def opened(**more):
-    """The program and its page; whatever goes wrong in the page fails the test."""
-    with Browser() as browser:
-        live = Opened(browser, **more)
-        try:
-            yield live
-            assert not live.page.faults(), live.page.faults()
-        finally:
-            live.close()
-
-
-def text(page, selector):
-    return page.value(f"document.querySelector('{selector}').innerText")
 
 
 def test_a_save_shows_the_new_value_and_marks_it():
@@ -73,15 +22,15 @@ def test_a_save_shows_the_new_value_and_marks_it():
         live.save(b"param 5 1017 0 100", NEW)
         rows = page.value("[...document.querySelectorAll('.node[open] tr.new')].map(row => row.innerText.split('\\t'))")
         assert rows == [["1017h:00", "Producer heartbeat time", "50 (32h)", "100 (64h)"]], rows
-        marks = page.value("[...document.querySelectorAll('mark')].map(each => each.textContent + each.nextSibling.textContent)")
+        marks = page.value("[...document.querySelectorAll('.node mark')].map(each => each.textContent + each.nextSibling.textContent)")
         assert marks == ["ParameterValue=0x0032  was 0x0064"], marks
         assert text(page, "#tab-nodes .badge") == "1 changed" and text(page, ".node .tag") == "1 value changed"
-        assert re.match(r"Up to date \d\d:\d\d:\d\d, \d+ ms from save to page", text(page, "#status")), text(page, "#status")
-        page.value("live.all[1].isChanged.checked = true, live.all[1].filter()")
+        assert re.match(r"Up to date \d\d:\d\d:\d\d, [\d,]+ ms after the save\.", text(page, "#status")), text(page, "#status")
+        page.value("live.parts[1].isChanged.checked = true, live.parts[1].filter()")
         assert page.value("[...document.querySelectorAll('.node')].map(each => each.hidden)") == [False, True]
-        page.value("live.all[1].isChanged.checked = false")
+        page.value("live.parts[1].isChanged.checked = false")
         live.save(b"set 5 6041 0 7", b"set 5 6041 0 9")
-        assert page.value("document.querySelectorAll('mark').length") == 0, "marks are of the last save"
+        assert page.value("document.querySelectorAll('.node mark').length") == 0, "marks are of the last save"
 
 
 def test_the_timeline_stays_where_it_is_and_marks_what_is_new():
@@ -94,7 +43,7 @@ def test_the_timeline_stays_where_it_is_and_marks_what_is_new():
         assert page.value("[live.run.timeline.scale.from, live.run.timeline.scale.to]") == [30000, 55000]
         fresh = page.value("[...live.run.timeline.trace.fresh].map(frame => live.run.timeline.trace.text(frame))")
         assert fresh == ["flow: 6041h Statusword=0009h"] * 2, fresh
-        assert text(page, "#tab-run .badge") == "2 frames new"
+        assert text(page, "#tab-run .badge") == "2 changed"
         pink = page.value("""(() => { const view = live.run.timeline, lane = view.lanes.shown[1], y = AXIS + lane.top + lane.height - 3;
             const x = Math.round(view.scale.x(40110)), data = view.canvas.getContext('2d').getImageData(x - 3, y, 6, 1).data;
             return [...data].filter((each, n) => n % 4 === 0 && each > 200 && data[n + 1] < 90).length; })()""")
@@ -159,7 +108,7 @@ def test_what_is_not_simulated_yet_is_pale_and_of_the_save_before():
 def test_rows_of_the_save_before_are_told_apart():
     with halved() as live:
         page = live.page
-        rows = "[...document.querySelectorAll('.frames tbody tr')].map(row => [row.className, row.title, row.innerText.split('\\t').pop().trim()])"
+        rows = "[...document.querySelectorAll('.frames tbody tr')].map(row => [row.className, row.title, row.lastChild.lastChild.textContent])"
         page.value("live.run.view(1), live.run.frames.text.value = 'pump', live.run.frames.filter()")
         page.settle()
         page.value("live.run.frames.scroller.scrollTop = 98 * 24")
@@ -196,7 +145,7 @@ def test_frames_are_listed_and_filtered():
         page.value("live.run.frames.text.value = 'flow', live.run.frames.filter()")
         page.settle()
         rows = page.value("[...document.querySelectorAll('.frames tbody tr')].map(row => row.innerText.split('\\t').map(each => each.trim()))")
-        assert len(rows) == 5 and rows[0][1:] == ["185", "PDO", "pump", "flow: 6041h Statusword=0000h", "00 00"], rows
+        assert len(rows) == 5 and rows[0][1:] == ["185", "PDO", "pump", "flow: 0000h (6041h Statusword)", "00 00"], rows
         live.save(b"set 5 6041 0 7", b"set 5 6041 0 9")
         assert page.value("document.querySelectorAll('.frames tbody tr').length") == 5, "the filter stays"
         assert page.value("document.querySelectorAll('.frames tbody tr.new').length") == 2
@@ -214,8 +163,8 @@ def test_what_is_wrong_is_told_with_its_line():
         page = live.page
         live.save(b"param 5 6080 0 4000", b"param 5 6080 0 7000\nparam 9 1017 0 1")
         found = page.value("[...document.querySelectorAll('.findings li.error.new')].map(each => each.innerText)")
-        assert len(found) == 2 and "network.txt:8" in found[0] and "node 9 isn't there" in found[0], found
-        assert "network.txt:7" in found[1] and "7000 is above the HighLimit 6000" in found[1] and "E03" in found[1]
+        assert len(found) == 2 and "network.txt:8" in found[1] and "node 9 isn't there" in found[1], found
+        assert "network.txt:7" in found[0] and "7000 is above the HighLimit 6000" in found[0] and "E03" in found[0]
         assert text(page, ".summary").startswith("2 errors, no warnings.") and text(page, "#tab-wrong .badge") == "2"
         live.save(b"param 5 6080 0 7000\nparam 9 1017 0 1", b"param 5 6080 0 4000")
         assert text(page, ".summary").startswith("Nothing is wrong.")
@@ -248,16 +197,16 @@ def test_nothing_jumps_on_a_save():
 
 def test_the_page_fits_from_390_to_2560_pixels():
     with opened() as live:
-        for wide, high in ((390, 844), (768, 1024), (1280, 800), (2560, 1400)):
+        for wide, high in ((390, 844), (768, 1024), (960, 1000), (1280, 800), (2560, 1400)):
             live.page.resize(wide, high)
             live.page.settle()
-            for number in range(5):
+            for number in range(4):
                 live.page.value(f"live.tabs.choose({number})")
                 live.page.settle()
                 assert live.page.value("document.documentElement.scrollWidth") <= wide, (wide, number)
             beside = live.page.value("!document.getElementById('part-run').hidden && !document.getElementById('part-wrong').hidden")
             live.page.value("live.tabs.choose(0)")
-            assert live.page.value("!document.getElementById('part-run').hidden") == (wide >= 1500), beside
+            assert live.page.value("!document.getElementById('part-run').hidden") == (wide >= 1500 or wide >= 700 and high >= 880), beside
 
 
 def test_an_empty_script_and_an_empty_run_are_shown():
@@ -270,7 +219,7 @@ def test_an_empty_script_and_an_empty_run_are_shown():
         put(live.scene.script, b"")
         page.wait(f"live.items.get('ledger').length > {saves}")
         page.settle()
-        assert page.value("live.run.timeline.trace.lanes.map(lane => lane.name)") == ["manager"]
+        assert page.value("live.run.timeline.trace.lanes.map(lane => lane.name + (lane.gone ? ' gone' : ''))") == ["manager", "pump gone", "guard gone"]
         page.value("live.tabs.choose(1)")
         page.settle()
         assert "There are no nodes." in text(page, "#part-nodes")
@@ -283,12 +232,12 @@ def test_parts_are_chosen_by_keys_and_have_roles():
         page.key("ArrowRight", 39)
         assert page.value("document.activeElement.id") == "tab-nodes" and page.value("document.getElementById('part-wrong').hidden")
         page.value("document.activeElement.blur()")
-        page.key("5")
-        assert page.value("document.getElementById('tab-ledger').getAttribute('aria-selected')") == "true"
+        page.key("3")
+        assert page.value("document.getElementById('tab-messages').getAttribute('aria-selected')") == "true"
         nodes = page.ask("Accessibility.getFullAXTree")["nodes"]
         named = {(each["role"]["value"], each.get("name", {}).get("value", "")) for each in nodes if not each["ignored"]}
         assert ("heading", "network.txt") in named and ("tablist", "parts of the page") in named, sorted(named)
-        assert len([role for role, _ in named if role == "tab"]) == 5 and any(role == "tabpanel" for role, _ in named)
+        assert len([role for role, _ in named if role == "tab"]) == 4 and any(role == "tabpanel" for role, _ in named)
 
 
 def test_files_can_be_saved():

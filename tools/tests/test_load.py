@@ -186,7 +186,7 @@ def test_load_draws_a_bar_for_each_identifier():
     for text in ("181h outputs", "2.460", "18Bh infeed_inputs", "2.720", "2.980", "77Fh heartbeat of manager", "its own frame"):
         assert text in texts, (text, texts)
     page = load("--format", "html", "--assume", "10000", "--title", "<&>")[1].decode()
-    assert output in page and "<title>&lt;&amp;&gt;</title>" in page and page.count("<h2>") == 3 and "src=" not in page
+    assert output in page and "<title>&lt;&amp;&gt;</title>" in page and page.count("<h2>") == 4 and "src=" not in page
     assert load("--format", "svg")[1].count(b"no bound") == 8
 
 

@@ -1,6 +1,7 @@
 """`timeline` in a browser: where things stand, and what wheel, mouse, fingers and keys do. Skipped without Chromium."""
 import contextlib
 import random
+import re
 
 from browser import Browser
 from cobench_tools import device
@@ -320,4 +321,10 @@ def test_the_page_reads_values_as_explain_does():
             assert case[4] == value, (case, value)
         texts = page.value("[...Array(timeline.trace.count).keys()].map(frame => timeline.trace.text(frame))")
     explained = run("explain", "--names", example("servo_axes.txt"), example("servo_axes.replies.txt"))[1].decode().splitlines()
-    assert texts == [line[15:] for line in explained if line[11:15] != "note"]
+    expected = [values_first(line[15:]) for line in explained if line[11:15] != "note"]
+    assert texts == expected, [each for each in zip(texts, expected) if each[0] != each[1]]
+
+
+def values_first(said):
+    """What is said of an SDO frame with the value before the entry's name; nothing else has an entry behind the node."""
+    return re.sub(r"^(\w+ [0-9A-F]{4}h:[0-9A-F]{2}) (.+) (:= .*|= .*|written|read|ready for segments|segment .*)$", r"\1 \3 (\2)", said)

@@ -1,7 +1,7 @@
 """Says what was recorded on a bus beside what a script plans for it."""
 import os
 
-from .. import acceptance, bundle, findings, judgement, output, session, tool, trace
+from .. import acceptance, bundle, findings, judgement, output, papers, session, tool, trace
 from ..conform import choice
 from ..conform import options as judging
 from ..conform import tolerance as tolerances
@@ -101,7 +101,8 @@ def draw(options, drawn, report):
     zero = alignment.offset if alignment.offset is not None else report.judge.begin
     found = [(cause, finding.text) for cause, finding in zip(report.causes, report.findings) if not finding.accepted]
     title = f"{os.path.basename(tool.name_of(options.log))} and {os.path.basename(tool.name_of(options.script))}"
-    page = bundle.timeline_page(Overlay(drawn, report.judge, zero, found).content(title))
+    made = papers.content_of(options.script, report.judged())
+    page = bundle.timeline_page({**Overlay(drawn, report.judge, zero, found).content(title), **made})
     output.write_file(options.timeline, page.encode("utf-8", "surrogateescape"))
 
 

@@ -26,10 +26,10 @@ def arguments(parser):
 
 
 def run(options):
-    wiring, status = network.wired(options)
+    wiring, report = network.wired(options)
     dbc = Dbc(wiring, options.names == "receiver")
     for tpdo in dbc.left_out:
         tool.warn(f"TPDO {tpdo.number} of node {tpdo.node} is left out: {tpdo.identifier:03X}h is the identifier of "
                   "another")
     tool.put(dbc.text().encode("cp1252", "replace"))
-    return tool.FOUND if dbc.left_out else status
+    return tool.FOUND if dbc.left_out else report.status

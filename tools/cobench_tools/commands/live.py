@@ -7,8 +7,9 @@ import signal
 import threading
 import time
 
-from .. import interrupts, session, tool
+from .. import acceptance, interrupts, session, tool
 from ..live.doorway import Doorway
+from ..live.editor import Editor
 from ..live.feed import Feed
 from ..live.follow import Follower
 from ..live.programs import probe
@@ -19,10 +20,16 @@ SUMMARY = "follow a script in a browser: after each save what is wrong, files, m
 AFTER = f"""Starts a cobench that stays open, and serves a page on this machine alone. When
 SCRIPT or a file that it takes in is saved, the edits between the two projects go to
 the open cobench, and the page shows what it answers: what is wrong, each node with
-its files, the messages, the run as a timeline and as a table, and what the save
-cost. What the save has changed is marked. A long run comes in parts, its first
-second first: what lies behind is pale until it is simulated. Ctrl-C ends it, within
-two seconds whatever cobench does.
+its files, the messages, and the run as a timeline and as a table. What the save has
+changed is marked: what is new, what was otherwise, and what has gone. A long run
+comes in parts, its first second first: what lies behind is pale until it is
+simulated. Ctrl-C ends it, within two seconds whatever cobench does.
+
+The line of a finding is a button: it copies FILE:LINE, or opens that line by the
+words of --editor, in which {{file}} and {{line}} stand for the two.
+
+{acceptance.ACCEPTED} FILE is followed as
+SCRIPT is.
 
 The address that is printed has a word, made anew each time, that the page, its feed
 and the files ask for, so that other accounts of the machine read nothing; with
@@ -33,7 +40,8 @@ as one in a snap, shows nothing: open the printed address there.
 {session.PROGRAM} Status: 0 once it is ended, 2 where SCRIPT isn't there, cobench
 can't be run, or the port is in use.
 
-  cobtool live --open network.txt"""
+  cobtool live --open network.txt
+  cobtool live --editor 'code -g {{file}}:{{line}}' --allow 'sheet drive' network.txt"""
 
 PORT = 8306
 LOOKS = 0.02, 0.2   # seconds between two looks at the files, and where a file system is slow
@@ -51,7 +59,19 @@ def arguments(parser):
     parser.add_argument("--open", action="store_true", help="open the page in the browser")
     parser.add_argument("--open-to-all", action="store_true",
                         help="let all accounts of this machine read the page: its address has no word")
+    parser.add_argument("--editor", metavar="WORDS", help="open the line of a finding by these words; it is copied without them")
+    acceptance.add_allowed(parser)
     session.add_arguments(parser)
+
+
+def opens_of(options, follower):
+    """What opens a line that the page names in the editor, None where there is none."""
+    if options.editor is None:
+        return None
+    if options.open_to_all:
+        raise tool.Fault("--editor and --open-to-all: other accounts of this machine could start your editor")
+    editor = Editor(options.editor)
+    return lambda path, line: editor.open(path, line) if follower.has_place(path, line) else "the page names no such line"
 
 
 def server_of(options, feed, follower):
@@ -60,7 +80,7 @@ def server_of(options, feed, follower):
         raise tool.Fault(f"a port is 0 to 65535, not {options.port}")
     word = "" if options.open_to_all else secrets.token_urlsafe(16)
     try:
-        return Server(options.port, os.path.basename(options.script), feed, follower.saved, word)
+        return Server(options.port, os.path.basename(options.script), feed, follower.saved, word, opens_of(options, follower))
     except OSError as error:
         raise tool.Fault(f"port {options.port}: {error.strerror}; --port takes another") from None
 
@@ -80,7 +100,7 @@ class Live(threading.Thread):
         super().__init__(daemon=True)
         self.options, self.ends, self.is_over = options, ends, False
         self.feed, self.server, self.doorway = Feed(), None, Doorway()
-        self.follower = Follower(options.script, session.program(options.cobench), self.feed)
+        self.follower = Follower(options.script, session.program(options.cobench), self.feed, options)
 
     def run(self):
         try:

@@ -1,13 +1,12 @@
 """Says what the bus has to carry at worst, and whether each frame is in time."""
 import os
 
-from .. import acceptance, findings, foreign, load_tables, network, output, tables, tool
+from .. import acceptance, foreign, load_tables, network, output, papers, tables, tool
 from ..evidence import Evidence
 from ..load import Load
 from ..load_findings import LoadFindings
 from ..load_picture import picture
 from ..page import page_of
-from ..safe_text import markup
 from ..wiring import Wiring
 
 SUMMARY = "say what the bus has to carry at worst, and which frames may be late"
@@ -78,11 +77,9 @@ def record(load, each):
 
 def page(heading, load, report, shown):
     """The page: what is wrong, the picture, and the tables."""
-    wrong = [f'<p class="{each.severity}">{markup(line)}</p>\n'
-             for each in report.open for line in findings.lines_of([each])]
     sections = [tables.html_section(table) for table in shown]
     drawn = f'<section>\n<h2>What each waits for at worst</h2>\n<div class="wide">{picture(load)}</div>\n</section>\n'
-    return page_of(heading, wrong + [drawn] + sections)
+    return page_of(heading, [papers.wrong_section(report), drawn] + sections)
 
 
 def printed(options, load, report):
@@ -96,7 +93,7 @@ def printed(options, load, report):
     if options.format == "csv":
         return tables.as_csv(shown[0])
     if options.format == "html":
-        return page(heading, load, report, shown)
+        return page(heading + [papers.made_of(options.script, report)], load, report, shown)
     return (tables.as_text if options.format == "text" else tables.as_markdown)(heading, shown)
 
 

@@ -1,7 +1,7 @@
 """Draws a trace: one HTML file that any browser shows."""
 import os
 
-from .. import bundle, tool, view
+from .. import bundle, papers, tool, view
 from ..picture import Picture
 
 SUMMARY = "draw a trace as an HTML page that any browser shows"
@@ -14,7 +14,8 @@ standard input.
 
 {view.HELP}
 
-The file needs nothing beside it and no network. The wheel scrolls, and zooms with
+The file needs nothing beside it and no network, and prints whole: it says when it was
+made, of which version of SCRIPT, where git has one, and what is wrong. The wheel scrolls, and zooms with
 Ctrl; dragging moves; two fingers zoom; pointing or tapping tells what is there;
 the button ? lists the keys. The page's address ends with the part of the run that
 is shown, in microseconds: trace.html#120000-280000 opens that part. Status: 0, 1
@@ -36,5 +37,6 @@ def run(options):
     shown = view.of(options.script, options.replies, options)
     path = options.log or options.script or options.replies
     title = options.title or (tool.name_of(path) if path == "-" else os.path.basename(path))
-    tool.put(bundle.timeline_page(Picture(shown).content(title)))
+    made = papers.content_of(options.script or options.replies, shown.report)
+    tool.put(bundle.timeline_page({**Picture(shown).content(title), **made}))
     return shown.status

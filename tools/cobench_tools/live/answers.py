@@ -6,19 +6,25 @@ import copy
 import functools
 import re
 
-from .. import concise, device, findings, ini, matrix, pdo_values, safe_text, tool
+from .. import acceptance, concise, device, findings, ini, judgement, matrix, pdo_values, safe_text, slips, taken_twice, tool, trace
 from ..evidence import Evidence
 from ..report import Report, json_of
+from ..script_order import ScriptOrder
+from .kept_faults import KeptFaults
 from .network import Tables
 
 FILE_TYPES = {"dcf": "text/plain; charset=utf-8", "bin": "application/octet-stream"}
 
 
-def wrong_item(records, diagnostics):
-    """What is wrong, by the records of `check`, and the lines of `diag`."""
-    counts = {severity: sum(each["severity"] == severity for each in records) for severity in ("error", "warning")}
-    return {"errors": counts["error"], "warnings": counts["warning"], "findings": records,
-            "diagnostics": [safe_text.readable(tool.shown(line)) for line in diagnostics]}
+MOST_LINES = 2_000  # of a run of more lines the boots alone are judged, as it is gone through anew after each save
+
+
+def wrong_item(found, answered):
+    """What is wrong, by the findings of `check` in the order of the script, and the lines of `diag`."""
+    open_ones = [each.severity for each in found if not each.accepted]
+    return {"errors": open_ones.count(findings.ERROR), "warnings": open_ones.count(findings.WARNING),
+            "findings": [json_of(each) for each in ScriptOrder(answered.pairs).sorted(found)],
+            "diagnostics": [safe_text.readable(tool.shown(line)) for line in answered.lines("diag")]}
 
 
 class File:
@@ -114,12 +120,13 @@ class Answers:
     sheets  the data sheets by name, read once as long as they stay the same
     files   the files of each node
     tables  the tables of the network
+    rules   by which findings are accepted (acceptance.Rule)
     """
 
     def __init__(self):
-        self.sheets, self.files, self.tables = {}, {}, Tables()
+        self.sheets, self.files, self.tables, self.rules = {}, {}, Tables(), []
         self._texts, self._shown, self._marked = {}, {}, set()
-        self._found, self._booted = [], []
+        self._found, self._of_run, self._faults = [], [], KeptFaults()
 
     def copy(self):
         """The same, to go on from."""
@@ -139,21 +146,38 @@ class Answers:
 
     def take(self, answered, evidence, is_first):
         """The items that are other than before a save; of the first one nothing is marked as new."""
-        found = findings.refused(answered) + findings.diagnosed(evidence) + findings.unused_values(evidence)
-        self._found = [json_of(finding) for finding in found]
-        items = {"wrong": wrong_item(self._found + self._booted, answered.lines("diag"))}
+        self._found = findings.refused(answered) + findings.diagnosed(evidence) + findings.unused_values(evidence)
+        self._found += slips.of(evidence) + taken_twice.of(evidence) + self._faults.of(evidence)
+        items = {"wrong": self._wrong(answered)}
         items.update(self._take_nodes(answered, evidence, is_first))
         items.update(self.tables.take(answered, self.sheets, self.files))
         return items
 
-    def booted(self, answered, evidence, run):
-        """The items that the trace decides too: what is wrong with all of it, and when each node was configured."""
+    def _wrong(self, answered):
+        """What is wrong so far; the user accepts some of it."""
+        found = self._found + self._of_run
+        acceptance.mark(found, self.rules)
+        return wrong_item(found, answered)
+
+    def of_run(self, answered, evidence, run, text):
+        """The items that the trace, which is this text, decides too: what is wrong with all of it, and when each node
+        was configured.
+        """
         boots = run.boots()
-        found = findings.of_boots(evidence, boots, lambda nodes: run.last_said(evidence, nodes))
-        self._booted = [json_of(finding) for finding in found]
+        if text.count(b"\n") > MOST_LINES:
+            self._of_run = findings.of_boots(evidence, boots, lambda nodes: run.last_said(evidence, nodes))
+        else:
+            answered.answers["trace"] = text.split(b"\n")[:-1]
+            self._of_run = judgement.of_run(evidence)
         report = Report(answered, [], boots)
-        return {"wrong": wrong_item(self._found + self._booted, answered.lines("diag")),
+        return {"wrong": self._wrong(answered),
                 "boots": {"text": report.boots_text(), "times": {str(node): time for node, time in report.booted.items()}}}
+
+    def places(self):
+        """Each FILE:LINE that a finding names, as file and line."""
+        found = self._found + self._of_run
+        named = [finding.place for finding in found] + [place for finding in found for place, _ in finding.notes]
+        return {(place.path, place.line) for place in named}
 
     def _take_nodes(self, answered, evidence, is_first):
         """The nodes that are other than they were, that were marked by the save before, or are gone."""

@@ -7,17 +7,17 @@ import gc
 import os
 import time
 
-from .. import own_faults, reader, safe_text, session, tool
+from .. import acceptance, own_faults, reader, safe_text, session, tool
 from .again import Again
 from .answers import Answers
 from .children import Children
 from .ledger import MOST_SAVES, Save
 from .opened import Ended
 from .programs import Programs
+from .quiet import is_quiet, pairs_of
 from .run import Run
 from . import watch
 
-QUIET = {b"trace", b"diag", b"project"}     # queries that are never refused, and change nothing
 RESTS = 1.0         # seconds behind a save, where nothing comes, until memory is looked through for what isn't used any more
 SHORT = 200         # so many windows of a run are drawn before the eye sees that they come behind the rest
 MOST_EDITS = 1      # so many edits are sent before the files have stood still: a script that is half written mostly makes more
@@ -28,10 +28,14 @@ class Moved(Exception):
 
 
 class Follower:
-    """Follows a script, over the program that these words start, into a feed."""
+    """Follows a script, over the program that these words start, into a feed.
 
-    def __init__(self, path, words, feed):
+    accepted  the words of the command that accept findings (allow, allow_from), None for none
+    """
+
+    def __init__(self, path, words, feed, accepted=None):
         self.path, self.words, self.feed, self.watch = path, words, feed, watch.Watch()
+        self.accepted, self.rules = accepted, []
         self.children = Children(self.watch.has_moved)
         self.programs, self.answers, self.run = Programs(words, self.children), Answers(), Run()
         self.number, self.records, self.is_first = 0, [], True
@@ -68,6 +72,10 @@ class Follower:
     def saved(self, name):
         """The bytes and the type of a node's file, as `5.dcf`, else None."""
         return self.answers.saved(name)
+
+    def has_place(self, path, line):
+        """Whether the page names this line of this file."""
+        return (path, line) in self.answers.places()
 
     def summary(self):
         """What there was to do, in a line."""
@@ -139,12 +147,12 @@ class Follower:
         with save.step("read"):
             try:
                 commands = reader.Reader(read_text=self.watch.read_text).commands(self.path)
+                self.rules = acceptance.rules_of(self.accepted, self.watch.read_text) if self.accepted else []
             finally:
                 self.watch.take(self.path)
         with save.step("project apart"):
-            asked = [command for command in commands if command.name not in QUIET or len(command.words) > 1]
-            replies, made = self.programs.apart([command.text() for command in asked])
-            return list(zip(asked, replies)), made
+            given, made = self.programs.apart([command.text() for command in commands if not is_quiet(command)])
+            return pairs_of(commands, iter(given)), made
 
     # The open cobench.
 
@@ -192,6 +200,7 @@ class Follower:
             answered.answers = self.programs.answers()
         with save.step("lists"):
             answers = self.answers.copy()
+            answers.rules = self.rules
             evidence = answers.evidence(answered)
             items = answers.take(answered, evidence, self.is_first)
         if self.programs.is_long or not self.programs.opened.is_answering():
@@ -204,7 +213,7 @@ class Follower:
             text = self.programs.opened.take_text()
         with save.step("picture"):
             self.draw(save, text, answers)
-            items.update(answers.booted(answered, evidence, self.run))
+            items.update(answers.of_run(answered, evidence, self.run, text))
         self.tell(answers, {**items, **self.drawn}, lambda: self.ended(save, answered))
         self.is_first, self.drawn = False, {}
 

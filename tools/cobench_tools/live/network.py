@@ -1,36 +1,41 @@
 """The tables of the network that the page shows: each is made anew only where what it is made of is other."""
+from typing import Dict, List
+
 from .. import matrix
+from .changed_rows import changed_rows
 from ..wiring import RPDO, TPDO, Node, Wiring
 
 TABLES = {"messages": matrix.messages_table, "signals": matrix.signals_table, "heartbeats": matrix.heartbeats_table,
           "left-out": matrix.left_out_table}
 
 
+NO_ROWS: Dict[str, List[List[str]]] = {"rows": []}
+
+
 def table_item(table, before):
-    """A table of the network; its rows that weren't there before the last save are marked."""
-    old = set(map(tuple, before["rows"])) if before else None
-    marks = [] if old is None else [place for place, row in enumerate(table.rows) if tuple(row) not in old]
-    return {"title": table.title, "columns": table.columns, "rows": table.rows, "below": table.below, "marks": marks,
-            "numbers": [table.is_number(place) for place in range(len(table.columns))]}
+    """A table of the network; the rows that the last save has changed are marked, and those that have gone stay by.
+    None of messages that are left out, where there are and were none."""
+    marks, was, gone = changed_rows(table.rows, before["rows"]) if before else ([], {}, [])
+    if table.key == "left-out" and not table.rows and not gone:
+        return None
+    return {"key": table.key, "title": table.title, "columns": table.columns, "rows": table.rows, "below": table.below, "marks": marks,
+            "was": was, "gone": gone, "numbers": [table.is_number(place) for place in range(len(table.columns))]}
 
 
 class Tables:
     """The tables, and the nodes that they are made of, by their numbers, each with its file and what its tables show."""
 
     def __init__(self):
-        self._tables, self._made_of, self._nodes = {}, {}, {}
+        self._tables, self._made_of, self._nodes = {}, None, {}
 
     def take(self, answered, sheets, files):
         """The tables as items, None for one that isn't there; where all that one is made of is as before, no row is marked."""
         self._nodes = {node: self._node(node, sheets[eds], files[node]) for node, (_, eds) in answered.project.nodes.items()}
         wiring = Wiring(answered, {node: known.node for node, known in self._nodes.items()})
         shown, made_of, self._made_of = self._tables, self._made_of, self._parts(wiring)
-        self._tables = {}
-        for key, make in TABLES.items():
-            if self._made_of[key] == made_of.get(key):
-                self._tables[key] = without_marks(shown[key])
-            else:
-                self._tables[key] = table_item(make(wiring), shown.get(key)) if key != "left-out" or wiring.faults else None
+        self._tables = {key: without_marks(shown[key]) if made_of and self._made_of[key] == made_of[key]
+                        else table_item(make(wiring), None if made_of is None else shown[key] or NO_ROWS)
+                        for key, make in TABLES.items()}
         return {f"table/{key}": table for key, table in self._tables.items()}
 
     def _node(self, number, sheet, file):
@@ -62,4 +67,6 @@ class Known:
 
 def without_marks(item):
     """The item of a table that stays, with no row marked."""
-    return {**item, "marks": []} if item and item["marks"] else item
+    if not item or not item["marks"] and not item["gone"]:
+        return item
+    return None if item["key"] == "left-out" and not item["rows"] else {**item, "marks": [], "was": {}, "gone": []}

@@ -1,6 +1,6 @@
 """The page over HTTP: on this machine alone, for browsers that ask by its own name and know its word.
 
-Its paths are fixed, and there is nothing of the disk.
+Its paths are fixed, and there is nothing of the disk. It is only read, but for one wish: to open a line in an editor.
 """
 import base64
 import errno
@@ -47,15 +47,16 @@ def hosts_of(port):
 class Server(http.server.ThreadingHTTPServer):
     """Serves the page of a title, the items of a feed, and the files that `saved` gives by their names.
 
-    word  what the address has to have, "" where anybody of this machine may look
+    word   what the address has to have, "" where anybody of this machine may look
+    opens  opens a line of a file in the user's editor, and says why it can't; None where there is no editor
     """
 
     daemon_threads = True
 
-    def __init__(self, port, title, feed, saved, word=""):
+    def __init__(self, port, title, feed, saved, word="", opens=None):
         super().__init__((ADDRESS, port), Handler)
-        self.feed, self.saved, self.word, self.is_closing = feed, saved, word, False
-        self.page = bundle.live_page({"title": title})
+        self.feed, self.saved, self.word, self.opens, self.is_closing = feed, saved, word, opens, False
+        self.page = bundle.live_page({"title": title, "opens": opens is not None})
         self.policy = policy(self.page)
         self.hosts = hosts_of(self.server_port)
 
@@ -112,12 +113,26 @@ class Handler(http.server.BaseHTTPRequestHandler):
         path, _, query = self.path.partition("?")
         if self.headers.get("Host", "").lower() not in self.server.hosts:
             self.put(403, "this page has another name")
-        elif self.command not in READ_METHODS:
+        elif self.command not in READ_METHODS and not self.is_wish(path):
             self.put(405, "the page is only read", Allow=", ".join(READ_METHODS))
         elif not self.server.is_known(query):
             self.put(403, "the address has no word, or an old one: open the address that cobtool live has printed")
-        else:
+        elif self.command in READ_METHODS:
             self.answer_path(path)
+        else:
+            self.open_line(urllib.parse.parse_qs(query))
+
+    def is_wish(self, path):
+        """Whether the page itself wishes that a line is opened, and there is an editor."""
+        origin = self.headers.get("Origin", "").lower().partition("://")
+        return (self.command, path) == ("POST", "/open") and origin[0] == "http" and origin[2] in self.server.hosts \
+            and self.server.opens is not None
+
+    def open_line(self, asked):
+        """Opens a line that the page names."""
+        line = asked.get("line", [""])[0]
+        why = self.server.opens(asked.get("file", [""])[0], int(line)) if re.fullmatch("[0-9]{1,9}", line) else "no line"
+        self.put(404 if why else 200, why or "opened")
 
     def answer_path(self, path):
         """Answers a request for a path."""

@@ -1,11 +1,12 @@
 """A cobench that is kept for an open script: each state of the script goes to it as the edits that make it."""
 import functools
 
-from .. import findings, hints, judgement, replies, session, sheet_faults, slips, tool
+from .. import findings, hints, judgement, session, slips, tool
 from ..live.answers import Answers
 from ..live.children import Children
-from ..live.follow import QUIET
+from ..live.kept_faults import KeptFaults
 from ..live.opened import Ended, lines_of
+from ..live.quiet import is_quiet, pairs_of
 from ..live.run import Run
 from .programs import Asked
 
@@ -55,7 +56,7 @@ class Kept:
         self.path, self.words, self.warn = path, words, warn
         self._children = Children(is_other_work)
         self.programs, self._answers, self._run = Asked(words, self._children), Answers(), Run()
-        self._faults = {}
+        self._faults = KeptFaults()
 
     def state(self, reading, commands):
         """The state that some commands make, without their run."""
@@ -73,18 +74,7 @@ class Kept:
         self._lead(made)
         answered.answers = self.programs.answers()
         evidence = self._answers.evidence(answered)
-        return State(reading, answered, evidence, self._sheet_faults(evidence))
-
-    def _sheet_faults(self, evidence):
-        """What is wrong with the data sheets: each is judged once as long as it stays the same."""
-        known, self._faults, found = self._faults, {}, []
-        for name, lines in sorted(evidence.project.texts.items()):
-            sheet = evidence.sheet(name)
-            before = known.get(name)
-            faults = before[1] if before and before[0] is sheet else sheet_faults.faults_of(sheet, lines)
-            self._faults[name] = sheet, faults
-            found += sheet_faults.findings_of(name, faults, functools.partial(evidence.origins.sheet_place, name))
-        return found
+        return State(reading, answered, evidence, self._faults.of(evidence))
 
     def _lead(self, made):
         """Has the open cobench make a project: by edits, or afresh where it isn't there or makes another one."""
@@ -118,13 +108,3 @@ class Kept:
     def kill(self):
         """Kills the cobenches, from another thread too."""
         self._children.kill()
-
-
-def is_quiet(command):
-    """Whether a command is a query that is never refused and isn't asked here."""
-    return command.name in QUIET and len(command.words) == 1
-
-
-def pairs_of(commands, given):
-    """The commands with the replies that were given to those that were asked; the others answer nothing."""
-    return [(command, replies.Reply(0, lines=[]) if is_quiet(command) else next(given)) for command in commands]

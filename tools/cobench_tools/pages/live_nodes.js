@@ -11,34 +11,53 @@ class NodesPart {
     this.bar = element("div", { class: "bar" }, this.search, element("label", {}, this.isChanged, " changed"));
     this.element = element("section", { class: "part" }, this.bar, this.none, this.list);
     this.cards = new Map();
+    this.gone = new Map();
     for (const field of [this.search, this.isChanged]) field.addEventListener("input", () => this.filter());
   }
 
   take(items, changed) {
     if (!["node/", "run", "boots"].some(start => touches(changed, start))) return;
     const nodes = items.all("node/"), run = items.get("run"), boots = items.get("boots");
-    for (const [number, card] of this.cards) if (!items.get("node/" + number)) { card.element.remove(); this.cards.delete(number); }
-    nodes.forEach((node, place) => this.put(node, place, changed.has("node/" + node.node)));
+    for (const [number, card] of this.cards) if (!items.get("node/" + number)) this.leave(number, card);
+    for (const node of nodes) this.put(node, changed.has("node/" + node.node));
+    this.inOrder();
     if (run) for (const node of nodes) this.cards.get(node.node).about(run, boots);
-    const marked = nodes.filter(isMarked).length;
-    this.none.hidden = nodes.length > 0;
+    this.none.hidden = this.cards.size > 0;
     this.bar.hidden = nodes.length < 8;
-    this.badge(marked ? `${marked} changed` : "", "changed");
+    const fresh = nodes.filter(each => each.isNew).length;
+    this.badge(changesWords({ gone: this.gone.size, changed: nodes.filter(isMarked).length - fresh, fresh }), "changed");
     this.filter();
   }
 
-  /** A node at its place of the list. */
-  put(node, place, isOther) {
+  /** A node has gone: it stays struck through until the next save. */
+  leave(number, card) {
+    this.cards.delete(number);
+    this.gone.set(number, card);
+    card.leave();
+  }
+
+  begin() {
+    for (const card of this.gone.values()) card.element.remove();
+    this.gone.clear();
+  }
+
+  put(node, isOther) {
     const known = this.cards.get(node.node), card = known || new NodeCard();
     if (!known) this.cards.set(node.node, card);
-    if (this.list.children[place] !== card.element) this.list.insertBefore(card.element, this.list.children[place] || null);
     if (isOther || !known) card.take(node);
   }
 
+  /** The nodes by their numbers, those that have gone among them; what stands in its place isn't touched. */
+  inOrder() {
+    const all = [...this.cards.values(), ...this.gone.values()].sort((a, b) => a.node.node - b.node.node);
+    all.forEach((card, place) => {
+      if (this.list.children[place] !== card.element) this.list.insertBefore(card.element, this.list.children[place] || null);
+    });
+  }
+
   filter() {
-    const wanted = this.search.value.trim().toLowerCase();
-    for (const card of this.cards.values())
-      card.element.hidden = !card.fits(wanted) || this.isChanged.checked && !isMarked(card.node);
+    const wanted = this.search.value.trim().toLowerCase(), hides = card => !card.fits(wanted) || this.isChanged.checked && !isMarked(card.node);
+    for (const card of this.cards.values()) card.element.hidden = hides(card);
   }
 }
 
@@ -68,6 +87,15 @@ class NodeCard {
     this.sheet.textContent = node.sheet + (node.need === "mandatory" ? ", mandatory" : "");
     badge(this.tag, node.isNew ? "new" : changesText(node), "tag");
     this.fill();
+  }
+
+  /** It has gone: its line stays, and can't be opened. */
+  leave() {
+    this.element.open = false;
+    this.element.classList.add("gone");
+    this.element.inert = true;
+    this.booted.textContent = this.state.textContent = "";
+    badge(this.tag, "gone", "tag");
   }
 
   /** What the run shows of it. What goes by all of the run stays as it was until that is there. */

@@ -12,8 +12,11 @@ class RunPart {
     this.waits = element("div", { class: "waits", role: "status", hidden: "" });
     this.element = element("section", { class: "part run" }, this.waits, this.drawing, this.frames.element);
     const keys = { addEventListener: (name, action) => document.addEventListener(name, event => this.pass(event, action)) };
-    this.timeline = new Timeline(this.drawing, keys);
-    this.known = this.seen = null;
+    this.help = button("?", "about this page, its marks and keys, key ?", () => this.onHelp());
+    this.timeline = new Timeline(this.drawing, keys, this.help);
+    this.known = this.seen = this.knownLanes = this.seenLanes = null;
+    this.onHelp = this.onView = () => {};
+    this.changes = element("span", { class: "tag" });
     this.view(0);
   }
 
@@ -23,12 +26,13 @@ class RunPart {
   }
 
   view(number) {
-    (number ? this.frames.bar : this.timeline.bar.element).prepend(this.switch);
+    (number ? this.frames.bar : this.timeline.bar.element).prepend(this.switch, this.changes);
     this.views.forEach(([, view], n) => {
       view.hidden = n !== number;
       this.switch.children[n].setAttribute("aria-pressed", String(n === number));
     });
     if (number === 1) this.frames.shown();
+    this.onView();
   }
 
   shown() { if (!this.frames.element.hidden) this.frames.shown(); }
@@ -44,31 +48,31 @@ class RunPart {
 
   take(items, changed) {
     const isOther = ["window/", "sorts/", "run"].some(start => touches(changed, start));
-    const isMarked = changed.has("ledger") && this.timeline.trace && this.timeline.trace.fresh.size;
+    const isMarked = changed.has("ledger") && this.timeline.trace && this.timeline.trace.isMarked;
     if (!isOther && !isMarked || !items.get("run")) return;
-    const sorts = [];
+    const sorts = [], run = items.get("run");
     for (const { at, rows } of items.all("sorts/")) rows.forEach((row, n) => { sorts[at + n] = row; });
     const windows = items.all("window/");
-    this.mark(windows, sorts);
-    this.timeline.show({ ...items.get("run"), sorts, windows, fresh: this.fresh });
+    this.now = new Map(windows.map(content => [content.at, { content, sorts }]));
+    this.nowLanes = run.lanes;
+    const { marks, gone } = this.known ? new RunChanges(this.now, this.known) : { marks: new Map(), gone: [] };
+    this.timeline.show({ ...run, lanes: this.lanes(run.lanes, gone), sorts, windows, marks, gone });
     this.frames.take(this.timeline.trace);
-    const count = this.timeline.trace.fresh.size;
-    this.badge(count ? `${several(count, "frame")} new` : "", "changed");
+    const changes = changesWords(this.timeline.trace.changes());
+    this.badge(changes, "changed");
+    badge(this.changes, changes, "tag");
+  }
+
+  /** The lanes, with those of frames that have gone, and of nodes that have. */
+  lanes(lanes, gone) {
+    const keys = new Set(lanes.map(([key]) => key)), wanted = new Set(gone.map(frame => frame.sort[2]));
+    const left = (this.knownLanes || []).filter(([key]) => !keys.has(key) && (key >= 0 || wanted.has(key)));
+    return lanes.concat(left.map(([key, name, title]) => [key, name, title, false, true]));
   }
 
   /** A save is over: what is there now isn't new at the next one. */
-  end(items) { this.seen = items && this.now; }
-  begin() { this.known = this.seen; }
-
-  /** Which frames weren't there before the last save: by windows, their places. */
-  mark(windows, sorts) {
-    this.now = new Map(windows.map(content => [content.at, { content, sorts }]));
-    this.fresh = new Map();
-    for (const [at, { content }] of this.known ? this.now : []) {
-      const known = this.known.get(at);
-      if (!known || known.content !== content) this.fresh.set(content, freshOf(known, content, sorts));
-    }
-  }
+  end(items) { this.seen = items && this.now; this.seenLanes = items && this.nowLanes; }
+  begin() { this.known = this.seen; this.knownLanes = this.seenLanes; }
 
   /** Shows a frame of the table in the timeline. */
   point(frame) {
@@ -80,37 +84,6 @@ class RunPart {
 
 /** Whether all of a run is there, and not a part before some moment alone. */
 const isWhole = run => run.known >= run.end;
-
-/** A place among the frames of a window, which stand by time: its number, its time, and where its bytes begin. */
-class FramePlace {
-  constructor(content, sorts) {
-    Object.assign(this, { content, sorts, number: 0, data: 0, time: content.at + content.time[0] });
-  }
-
-  isThere() { return this.number < this.content.sort.length; }
-
-  sort() { return this.sorts[this.content.sort[this.number]]; }
-
-  bytes() { return this.content.data.slice(this.data, this.data + 2 * this.sort()[3]); }
-
-  next() {
-    this.data += 2 * this.sort()[3];
-    this.time += this.content.time[++this.number];
-  }
-
-  /** Whether a frame of another window is the same: of this time and identifier, and with these bytes. */
-  isSame(other) { return this.time === other.time && this.sort()[0] === other.sort()[0] && this.bytes() === other.bytes(); }
-}
-
-/** The places of the frames that a window didn't have before. Bytes are looked at only where times are the same. */
-function freshOf(before, content, sorts) {
-  const fresh = new Set(), now = new FramePlace(content, sorts), old = before && new FramePlace(before.content, before.sorts);
-  for (; now.isThere(); now.next()) {
-    while (old && old.isThere() && old.time < now.time) old.next();
-    if (!old || !old.isThere() || !now.isSame(old)) fresh.add(now.number);
-  }
-  return fresh;
-}
 
 /** The frames as a table, of which the rows in view alone are made. */
 class FrameTable {
@@ -128,7 +101,7 @@ class FrameTable {
     this.below = element("div", {});
     this.scroller = element("div", { class: "rows", tabindex: "0", role: "region", "aria-label": "frames" },
       this.above, frameTable(this.body), this.below);
-    this.bar = element("div", { class: "bar" }, this.node, this.kind, this.text, element("label", {}, this.isNew, " new"), this.count);
+    this.bar = element("div", { class: "bar" }, this.node, this.kind, this.text, element("label", {}, this.isNew, " changed by the save"), this.count);
     this.element = element("div", { class: "frames" }, this.bar, this.scroller);
     for (const field of [this.node, this.kind, this.text, this.isNew]) field.addEventListener("input", () => this.filter());
     this.draw = onceAFrame(() => this.drawNow());
@@ -148,13 +121,11 @@ class FrameTable {
   /** Which frames are listed: by sort, as all frames of a sort have the same node, kind and subject. */
   filter() {
     const { trace } = this, wanted = this.text.value.trim().toLowerCase();
-    const fits = trace.sorts.map(sort => (!this.node.value || String(trace.lanes[sort.lane].key) === this.node.value) &&
+    const fits = trace.sorts.concat(trace.goneSorts).map(sort => (!this.node.value || String(trace.lanes[sort.lane].key) === this.node.value) &&
       (!this.kind.value || String(sort.kind) === this.kind.value) && (!wanted || subjectOf(sort).toLowerCase().includes(wanted)));
-    const found = new Uint32Array(trace.count);
-    let count = 0;
-    for (let i = 0; i < trace.count; i++) if (fits[trace.sort[i]] && (!this.isNew.checked || trace.fresh.has(i))) found[count++] = i;
-    this.found = found.subarray(0, count);
-    this.count.textContent = `${counted(count)} of ${several(trace.count, "frame")}`;
+    this.found = trace.inOrder().filter(i => fits[trace.sort[i]] && (!this.isNew.checked || trace.fresh.has(i) || trace.isGone(i)));
+    const gone = this.found.reduce((sum, i) => sum + trace.isGone(i), 0), behind = gone ? `, ${counted(gone)} gone` : "";
+    this.count.textContent = `${counted(this.found.length - gone)} of ${several(trace.count, "frame")}${behind}`;
     this.draw();
   }
 
@@ -167,17 +138,32 @@ class FrameTable {
     this.body.replaceChildren(...Array.from(this.found.subarray(first, last), frame => this.row(frame)));
   }
 
+  /** How a row is marked. */
+  markOf(frame) {
+    const { trace } = this, moved = ofSave(trace, frame).slice(3);
+    if (trace.isGone(frame)) return { class: "gone", title: moved };
+    if (trace.isOld(trace.time[frame])) return { class: "of-run", title: "of the save before" };
+    return trace.fresh.has(frame) ? { class: "new" } : moved ? { class: "moved", title: moved } : {};
+  }
+
   row(frame) {
     const { trace } = this, sort = trace.sortOf(frame), kind = trace.kinds[sort.kind];
     const time = element("button", { type: "button", class: "link", title: "show it in the timeline" }, shownTime(trace.time[frame]));
-    const cells = [time, trace.identifier(frame), kind, trace.lanes[sort.lane].name, trace.text(frame), spaced(trace.bytes(frame))];
-    const attributes = trace.isOld(trace.time[frame]) ? { class: "of-run", title: "of the save before" }
-      : trace.fresh.has(frame) ? { class: "new" } : {};
-    const made = element("tr", attributes, ...cells.map(cell => element("td", {}, cell)));
+    const bytes = element("td", {}, ...trace.was.has(frame) ? [element("del", {}, spaced(trace.was.get(frame))), " "] : [], spaced(trace.bytes(frame)));
+    const cells = [time, trace.identifier(frame), kind, trace.lanes[sort.lane].name];
+    const made = element("tr", this.markOf(frame), ...cells.map(cell => element("td", {}, cell)), element("td", {}, ...valuesFirst(trace, frame)), bytes);
     made.children[2].prepend(element("i", { style: `background: var(--${colourOf(kind)})` }));
     made.addEventListener("click", () => this.chosen(frame));
     return made;
   }
+}
+
+/** What a frame says with its values first, so that a narrow window cuts names off and no value. */
+function valuesFirst(trace, frame) {
+  const pairs = trace.pairs(frame), values = pairs.map(([, value]) => value).filter(Boolean).join(" ");
+  if (!pairs.length) return [trace.text(frame)];
+  const labels = element("span", { class: "soft" }, ` (${pairs.map(([label]) => label).join(", ")})`);
+  return [`${trace.said(frame).subject}: ${values}`, labels];
 }
 
 const frameTable = body => element("table", {}, element("thead", { class: "unseen" }, element("tr", {},

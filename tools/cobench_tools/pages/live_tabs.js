@@ -1,4 +1,6 @@
-/* The parts of the page as tabs. Where there is room the run stands beside the others, and is none of them. */
+/* The parts of the page as tabs. Where there is room the run stands beside the others or below them, and is none of them. */
+
+const ROOM = "(min-width: 1500px), (min-width: 700px) and (min-height: 880px)";     // as in live.css
 
 class Tabs {
   constructor(parts, list, panels) {
@@ -7,7 +9,8 @@ class Tabs {
     list.append(...this.tabs);
     panels.append(...parts.map(part => part.element));
     list.addEventListener("keydown", event => this.onKey(event));
-    this.wide = matchMedia("(min-width: 1500px)");
+    this.onChoose = () => {};
+    this.wide = matchMedia(ROOM);
     this.wide.addEventListener("change", () => this.choose(this.chosen));
     this.choose(0);
   }
@@ -29,6 +32,7 @@ class Tabs {
     const isBeside = part => this.wide.matches && part.name === "run";
     if (isBeside(this.parts[number])) number = 0;
     this.chosen = number;
+    document.body.classList.toggle("beside", this.wide.matches);
     this.parts.forEach((part, n) => {
       const is = n === number;
       this.tabs[n].setAttribute("aria-selected", String(is));
@@ -38,6 +42,7 @@ class Tabs {
       part.element.hidden = !is && !isBeside(part);
       if (!part.element.hidden && part.shown) part.shown();
     });
+    this.onChoose();
   }
 
   onKey(event) {

@@ -1,9 +1,10 @@
 /* The timeline: a toolbar, the kinds of frames, and the picture, in an element of a page. */
 
 class Timeline {
-  /** `keys` is the element whose keys are the picture's: the document where it has the page for itself. */
-  constructor(root, keys) {
+  /** `keys` is the element whose keys are the picture's: the document where it has the page for itself; `help` opens at `?`. */
+  constructor(root, keys, help) {
     this.root = root;
+    this.help = help;
     this.scale = new Scale();
     this.lanes = new Lanes();
     this.hidden = new Set();
@@ -15,7 +16,7 @@ class Timeline {
   }
 
   build() {
-    this.bar = new Toolbar(this);
+    this.bar = new Toolbar(this, this.help);
     this.names = element("ol", { class: "lanes" });
     this.corner = element("div", { class: "corner" }, "time in ms");
     this.most = element("span", { class: "most" });
@@ -208,8 +209,9 @@ function laneLabel(view, lane) {
   const label = element("li", { style: `top: ${lane.top}px; height: ${lane.height}px`, title: `${lane.name} ${lane.title}` },
     element("b", {}, lane.name), element("span", { class: "number" }, title));
   if (lane.trouble) label.prepend(element("i", { class: "alarm of-run", role: "img", "aria-label": several(lane.trouble, "alarm") }, "!"));
+  if (lane.gone) label.classList.add("gone");
   if (lane.signal) label.className = "signal";
-  else if (lanes.compact) label.className = "compact";
+  else if (lanes.compact) label.classList.add("compact");
   else for (const kind of lane.kinds) label.append(kindLabel(view, lane, kind));
   return label;
 }

@@ -65,11 +65,23 @@ function drawCompactRow(pen, view, lane) {
   for (const [left, right, frame, kind] of wide) drawLabel(pen, view, left, right, top, frame, colourOf(view.trace.kinds[kind]));
 }
 
-/** Under the frames of a lane that are new a line. */
-function drawFresh(pen, view, lane) {
-  pen.fillStyle = view.colours.fresh;
-  eachRun(view.trace, view.trace.freshRows[lane.number], view.scale, (left, right) =>
-    pen.fillRect(left - 1, lane.top + lane.height - 4, right - left + 2, 3));
+/** What a save has changed has a line under it: a full one what is new, a pale one what has only moved, a hollow one what has gone. */
+function drawChanges(pen, view, lane) {
+  const { trace, scale, colours } = view, high = view.lanes.compact ? 3 : 5, top = lane.top + lane.height - 1 - high;
+  const line = (colour, rows) => {
+    pen.fillStyle = colours[colour];
+    eachRun(trace, rows[lane.number], scale, (left, right) => pen.fillRect(left - 1, top, right - left + 2, high));
+  };
+  line("moved", trace.movedRows);
+  eachRun(trace, trace.goneRows[lane.number], scale, (left, right) => drawHollow(pen, colours, left - 2, top, right - left + 4, high));
+  line("fresh", trace.freshRows);
+}
+
+function drawHollow(pen, colours, left, top, wide, high) {
+  pen.fillStyle = colours.fresh;
+  pen.fillRect(left, top, wide, high);
+  pen.fillStyle = colours.paper;
+  pen.fillRect(left + 1, top + 1, wide - 2, high - 2);
 }
 
 function drawBands(pen, view, mask, left, wide, top) {

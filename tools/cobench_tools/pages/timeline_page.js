@@ -10,6 +10,22 @@ function summaryOf(content, trace) {
   return `${what} in ${seconds} s, ${1000 / content.bit} kbit/s`;
 }
 
+/** What is wrong with the script, line by line. */
+const wrongLines = ({ wrong }) => element("ol", { class: "lines" }, ...(wrong || []).map(([severity, line]) => element("li", { class: severity }, line)));
+
+/** The same behind a button. */
+function wrongBox(content) {
+  const made = popUp(content.counts.split(";")[0], "what is wrong with the script", wrongLines(content));
+  if (content.wrong.some(([severity]) => severity === "error")) made.firstChild.classList.add("wrong");
+  return made;
+}
+
+/** What stands above the run on paper. */
+function paperHead(content, summary) {
+  const lines = [summary, content.made, content.counts].filter(Boolean).flatMap(each => each.split("\n"));
+  return element("header", {}, element("h1", {}, content.title), ...lines.map(each => element("p", {}, each)), wrongLines(content));
+}
+
 /** The part of the run that the address asks for: #FROM-TO in microseconds. */
 function goToAddress(timeline) {
   const part = location.hash.match(/^#(\d+)-(\d+)$/);
@@ -29,17 +45,20 @@ function keepAddress(timeline) {
 }
 
 function openPage() {
-  const content = contentOf("content"), timeline = new Timeline(document.getElementById("timeline"), document);
+  const content = contentOf("content"), help = helpBox(), timeline = new Timeline(document.getElementById("timeline"), document, help);
   document.title = content.title + " · trace";
   timeline.bar.element.prepend(document.querySelector("header"));
   document.getElementById("title").textContent = content.title;
   timeline.show(content);
   document.getElementById("summary").textContent = summaryOf(content, timeline.trace);
+  document.getElementById("made").textContent = content.made || "";
   document.getElementById("unknown").hidden = content.script;
+  if (content.wrong && content.wrong.length) document.querySelector("header").append(wrongBox(content));
   goToAddress(timeline);
-  printWhole(timeline, () => content.title);
+  printWhole(timeline, () => content.title, () => paperHead(content, summaryOf(content, timeline.trace)));
   keepAddress(timeline);
   addEventListener("hashchange", () => goToAddress(timeline));
+  document.addEventListener("keydown", event => onKey({ "?": () => openBox(help) }, event));
   return timeline;
 }
 

@@ -51,7 +51,7 @@ function drawLanes(pen, view, ticks) {
 /** The marks of a lane, and its flags. */
 function drawFrames(pen, view, lane) {
   if (view.lanes.compact) drawCompactRow(pen, view, lane); else drawRows(pen, view, lane);
-  drawFresh(pen, view, lane);
+  drawChanges(pen, view, lane);
   drawFlags(pen, view, lane);
 }
 

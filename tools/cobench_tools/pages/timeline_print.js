@@ -99,9 +99,9 @@ function printFoot(pen, paper) {
   write(pen, "0", PRINTED.gutter - 34, top + floor, paper.colours.soft, 10);
 }
 
-/** All pieces of a run, each with its caption. */
-function printedPages(view, title) {
-  const made = element("div", { class: "printed" }, view.bar.legend.cloneNode(true));
+/** All pieces of a run, each with its caption, below what stands above them. */
+function printedPages(view, title, head) {
+  const made = element("div", { class: "printed" }, head, view.bar.legend.cloneNode(true));
   for (const [from, to] of piecesOf(view)) {
     for (const lanes of groupsOf(view)) {
       const words = `${title}: ${axisLabel(from, 1000)} to ${axisLabel(Math.min(to, view.trace.end), 1000)} ms`;
@@ -112,11 +112,11 @@ function printedPages(view, title) {
 }
 
 /** Has the page print all of its run, in the colours of paper. */
-function printWhole(view, title) {
+function printWhole(view, title, head) {
   let made = null;
   addEventListener("beforeprint", () => {
     document.documentElement.classList.add("on-paper");
-    made = printedPages(view, title());
+    made = printedPages(view, title(), head());
     document.body.append(made);
   });
   addEventListener("afterprint", () => {

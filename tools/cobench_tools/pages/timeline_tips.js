@@ -7,16 +7,27 @@ function findAt(view, x, y) {
   const lane = y < AXIS ? undefined : view.lanes.at(y - AXIS + view.scrolled());
   if (!lane) return null;
   if (lane.signal) return tellSignal(view, lane, scale.time(x));
-  const within = y - AXIS + view.scrolled();
+  const within = y - AXIS + view.scrolled(), gone = within > lane.top + lane.height - 8 ? nearestIn(view, view.trace.goneRows[lane.number], scale.time(x)) : null;
+  if (gone !== null) return tellFrame(view, gone);
   const flag = within < lane.top + view.lanes.flags ? nearestFlag(view, lane, x) : null;
   if (flag) return tellFlag(view, flag.flag, flag.others);
   const frame = nearestFrame(view, lane, x, within);
   return frame === null ? tellState(view, lane, scale.time(x)) : tellFrame(view, frame);
 }
 
+/** How far from the pointer something may be, in microseconds. */
+const reachOf = scale => 7 * scale.span / scale.plot;
+
+/** The frame of a row that is nearest to a moment, if one is near. */
+function nearestIn(view, row, at) {
+  const near = [firstAt(row.time, at) - 1, firstAt(row.time, at)].filter(i => i >= 0 && i < row.time.length);
+  const [best] = near.sort((a, b) => Math.abs(row.time[a] - at) - Math.abs(row.time[b] - at));
+  return best === undefined || Math.abs(row.time[best] - at) > reachOf(view.scale) ? null : row.frame[best];
+}
+
 /** The frame that is nearest to a place of a lane: in the row of the place first, then in the others. */
 function nearestFrame(view, lane, x, y) {
-  const { trace, scale } = view, wanted = view.lanes.kindAt(lane, y), at = scale.time(x), reach = 7 * scale.span / scale.plot;
+  const { trace, scale } = view, wanted = view.lanes.kindAt(lane, y), at = scale.time(x), reach = reachOf(scale);
   let best = null, least = Infinity;
   for (const kind of lane.kinds) {
     const row = trace.row(lane.number, kind);
@@ -38,12 +49,19 @@ const ofBefore = (trace, time, kind) => trace.isOld(time, kind) ? " · of the sa
 const ofOther = (trace, frame) => !trace.isBesidePlan || !trace.fresh.has(frame) ? ""
   : trace.lanes[trace.sortOf(frame).lane].planned ? " · not recorded then" : " · not planned then";
 
+/** What the last save has changed of a frame, in words. */
+function ofSave(trace, frame) {
+  const from = trace.moved.get(frame);
+  if (trace.isGone(frame)) return " · gone with the last save";
+  return from === undefined ? "" : ` · moved by ${from < trace.time[frame] ? "+" : "−"}${shownTime(Math.abs(trace.time[frame] - from))}`;
+}
+
 function tellFrame(view, frame) {
   const { trace } = view, sort = trace.sortOf(frame), kind = trace.kinds[sort.kind], said = trace.said(frame);
   return {
     time: trace.time[frame], lane: sort.lane, frame, colour: colourOf(kind),
-    head: `${shownTime(trace.time[frame])} · ${kind} · ${trace.lanes[sort.lane].said}${ofBefore(trace, trace.time[frame])}${ofOther(trace, frame)}`,
-    words: said.subject, values: said.values,
+    head: `${shownTime(trace.time[frame])} · ${kind} · ${trace.lanes[sort.lane].said}${ofBefore(trace, trace.time[frame])}${ofOther(trace, frame)}${ofSave(trace, frame)}`,
+    words: said.subject, values: said.values.concat(trace.was.has(frame) ? ["before: " + spaced(trace.was.get(frame))] : []),
     code: `${trace.identifier(frame)} [${sort.size}] ${spaced(trace.bytes(frame))}`,
   };
 }

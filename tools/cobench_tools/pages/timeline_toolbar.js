@@ -1,8 +1,9 @@
 /* What stands above the picture: buttons, the search, the kinds of frames, and the list of events and alarms: emergencies, failed boots. */
 
 class Toolbar {
-  constructor(view) {
+  constructor(view, help) {
     this.view = view;
+    this.help = help;
     this.search = element("input", { type: "search", placeholder: "node, message, 181h", size: "16",
       "aria-label": "search for a node, a message or an identifier" });
     this.count = element("span", { class: "soft", role: "status" });
@@ -22,7 +23,7 @@ class Toolbar {
     this.in = button("+", "zoom in, key +", () => view.zoom(.5));
     this.all = button("all", "show the whole run, key 0", () => view.showAll());
     return element("div", { class: "buttons", role: "toolbar", "aria-label": "timeline" },
-      this.search, this.count, this.list.element, this.signals.element, this.cursors.element, this.out, this.in, this.all, helpBox());
+      this.search, this.count, this.list.element, this.signals.element, this.cursors.element, this.out, this.in, this.all, this.help);
   }
 
   /** Enter and Escape give the keys back to the picture; Escape shows all lanes again. */
@@ -39,7 +40,7 @@ class Toolbar {
     for (const [, state] of trace.lanes.flatMap(lane => lane.states)) this.states.add(state);
     const names = trace.content.stateNames.filter((name, state) => this.states.has(state) && name !== "unknown");
     const differs = trace.content.windows.some(each => each.other && each.other.length) ? ["differs"] : [];
-    this.legend.replaceChildren(...kinds.map(each => this.chip(each)), ...names.concat(differs).map(stateChip));
+    this.legend.replaceChildren(...kinds.map(each => this.chip(each)), ...names.concat(differs).map(stateChip), ...changeChips(trace));
     this.list.take(trace);
     this.signals.take(trace);
   }
@@ -63,6 +64,13 @@ class Toolbar {
 const stateChip = name =>
   element("span", { class: "chip state" }, element("i", { class: colourOf(name), style: `background: var(--${colourOf(name)})` }), name);
 
+/** What the lines under frames mean, of those that there are. */
+function changeChips(trace) {
+  if (!trace.content.marks) return [];
+  const are = [["new", trace.fresh.size], ["moved", trace.moved.size], ["gone", trace.time.length - trace.count]];
+  return are.filter(([, count]) => count).map(([what]) => element("span", { class: "chip change" }, element("i", { class: what }), what));
+}
+
 function button(words, title, action) {
   const made = element("button", { type: "button", title, "aria-label": title.replace(/,.*/, "") }, words);
   made.addEventListener("click", action);
@@ -72,16 +80,27 @@ function button(words, title, action) {
 const KEYS = [["+ −", "zoom"], ["0", "whole run"], ["← →", "move in time"], ["↑ ↓", "scroll"], ["Page ↑ ↓", "a page of lanes"],
   ["n p", "next and previous event or alarm"], [". ,", "next and previous frame of the lane"], ["/", "search for a node, a message or an identifier; Enter goes to its first frame"],
   ["a b", "cursor A or B where the pointer is"], ["c", "cursors away"],
-  ["Esc", "close"]];
+  ["?", "this help"], ["Esc", "close"]];
 const MOUSE = [["wheel", "scrolls the lanes"], ["Ctrl + wheel", "zooms"], ["Shift + wheel", "moves in time"], ["drag", "moves"],
   ["double click", "zooms in"]];
 const FINGERS = [["swipe", "moves"], ["pinch", "zooms"], ["tap", "tells what is there"]];
 
-/** What keys, wheel and fingers do. */
+/** What keys, wheel and fingers do, as a table. */
+function helpTable(pairs) {
+  const row = ([key, what]) => element("tr", {}, element("td", {}, element("kbd", {}, key)), element("td", {}, what));
+  return element("table", {}, ...pairs.map(row));
+}
+
+/** The help of a timeline. */
 function helpBox() {
-  const rows = pairs => pairs.map(([key, what]) => element("tr", {}, element("td", {}, element("kbd", {}, key)), element("td", {}, what)));
   const link = element("p", { class: "soft" }, "The address ends with the part that is shown, in microseconds: #120000-280000.");
-  return popUp("?", "keys, mouse and fingers", element("table", {}, ...rows([...MOUSE, ...FINGERS, ...KEYS])), link);
+  return popUp("?", "keys, mouse and fingers, key ?", helpTable([...MOUSE, ...FINGERS, ...KEYS]), link);
+}
+
+/** Opens a box, and gives it the keys. */
+function openBox(box) {
+  box.open = true;
+  box.firstChild.focus();
 }
 
 /** A button with a box below it. */

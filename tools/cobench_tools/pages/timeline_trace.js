@@ -28,14 +28,14 @@ function valueAt(number, start, bits, form) {
   return hexadecimal(value, 2 * Math.ceil(bits / 8)) + "h";
 }
 
-/** What a PDO carries: each value with its label. */
+/** What a PDO carries: each label with its value. */
 function valuesOf(parts, bytes) {
   const number = littleEndian(bytes);
   let start = 0;
   return parts.map(([label, bits, form]) => {
-    const text = bits ? label + "=" + valueAt(number, start, bits, form) : label;
+    const value = bits ? valueAt(number, start, bits, form) : "";
     start += bits;
-    return text;
+    return [label, value];
   });
 }
 
@@ -47,29 +47,35 @@ class Trace {
     this.known = content.known < content.end ? content.known : Infinity;   // behind this moment it is of the trace before
     this.bit = content.bit;
     this.kinds = content.kinds;
-    this.lanes = content.lanes.map(([key, name, title, planned]) => ({ key, name, title, planned: Boolean(planned),
+    this.lanes = content.lanes.map(([key, name, title, planned, gone]) => ({ key, name, title, planned: Boolean(planned), gone: Boolean(gone),
       said: planned ? name + ", planned" : name, flags: [], states: content.states[key] || [] }));
     this.laneOf = new Map(this.lanes.map((lane, number) => [lane.key, number]));
-    this.sorts = content.sorts.map(([identifier, kind, lane, size, text, bits]) =>
-      ({ identifier, kind, lane: this.laneOf.get(lane), size, text, slot: (bits || 47 + 8 * size) * content.bit }));
-    this.takeFrames(content.windows);
+    this.sorts = content.sorts.map(row => this.sortOfRow(row));
+    this.takeFrames(content.windows, content.gone || []);
     this.sortIntoRows();
     this.takeFlags(content);
     this.countBy(10000);
   }
 
-  takeFrames(windows) {
+  sortOfRow([identifier, kind, lane, size, text, bits]) {
+    return { identifier, kind, lane: this.laneOf.get(lane), size, text, slot: (bits || 47 + 8 * size) * this.bit };
+  }
+
+  takeFrames(windows, gone) {
     this.count = windows.reduce((sum, each) => sum + each.sort.length, 0);
-    this.time = new Float64Array(this.count);
-    this.sort = new Uint32Array(this.count);
-    this.fresh = new Set();
+    this.time = new Float64Array(this.count + gone.length);
+    this.sort = new Uint32Array(this.count + gone.length);
+    this.fresh = new Set();         // frames that another run doesn't have,
+    this.was = new Map();           // of these the bytes that were there at that time,
+    this.moved = new Map();         // and of frames that it has at another time, that
     this.isBesidePlan = windows.some(each => each.other);
-    this.place = new Uint32Array(this.count);
-    this.data = windows.map(each => each.data).join("");
+    this.place = new Uint32Array(this.count + gone.length);
+    this.data = windows.map(each => each.data).concat(gone.map(each => each.bytes)).join("");
     let frame = 0, place = 0;
     for (const each of windows) {
       let time = each.at;
-      for (const n of each.other || this.content.fresh && this.content.fresh.get(each) || []) this.fresh.add(frame + n);
+      for (const n of each.other || []) this.fresh.add(frame + n);
+      for (const [n, mark] of this.content.marks && this.content.marks.get(each) || []) this.takeMark(frame + n, mark);
       for (let i = 0; i < each.sort.length; i++, frame++) {
         this.time[frame] = time += each.time[i];
         this.sort[frame] = each.sort[i];
@@ -77,6 +83,44 @@ class Trace {
         place += 2 * this.sorts[each.sort[i]].size;
       }
     }
+    this.takeGone(gone, place);
+  }
+
+  takeMark(frame, { from, was }) {
+    if (from !== undefined) { this.moved.set(frame, from); return; }
+    this.fresh.add(frame);
+    if (was !== undefined) this.was.set(frame, was);
+  }
+
+  /** Frames that have gone with the last save have numbers behind the others', and are neither counted nor in a row. */
+  takeGone(gone, place) {
+    const known = new Map();
+    this.goneSorts = [];
+    gone.forEach(({ time, sort, bytes }, n) => {
+      if (!known.has(sort)) { known.set(sort, this.sorts.length + this.goneSorts.length); this.goneSorts.push(this.sortOfRow(sort)); }
+      this.time[this.count + n] = time;
+      this.sort[this.count + n] = known.get(sort);
+      this.place[this.count + n] = place;
+      place += bytes.length;
+    });
+  }
+
+  isGone(frame) { return frame >= this.count; }
+
+  /** Whether anything is marked, and how much of each kind. */
+  get isMarked() { return this.fresh.size + this.moved.size + this.goneSorts.length > 0; }
+  changes() {
+    return { gone: this.time.length - this.count, changed: this.was.size, fresh: this.fresh.size - this.was.size, moved: this.moved.size };
+  }
+
+  /** All frames by time, those that have gone among them. */
+  inOrder() {
+    const order = new Uint32Array(this.time.length);
+    for (let n = 0, here = 0, gone = this.count; n < order.length; n++) {
+      const isHere = here < this.count && (gone >= this.time.length || this.time[here] <= this.time[gone]);
+      order[n] = isHere ? here++ : gone++;
+    }
+    return order;
   }
 
   /** A row has the frames of one kind in one lane, with their times beside them. */
@@ -91,13 +135,21 @@ class Trace {
       row.time[at] = this.time[i];
       row.frame[at] = i;
     }
-    this.freshRows = this.lanes.map(() => ({ time: [], frame: [] }));
-    for (const i of this.fresh) {
-      const row = this.freshRows[this.sorts[this.sort[i]].lane];
+    this.freshRows = this.rowsOf(this.fresh);
+    this.movedRows = this.rowsOf(this.moved.keys());
+    this.goneRows = this.rowsOf(Array.from({ length: this.time.length - this.count }, (_, n) => this.count + n));
+    this.lanes.forEach((lane, n) => { lane.kinds = this.kinds.map((_, kind) => kind).filter(kind => sizes[n * kinds + kind]); });
+  }
+
+  /** The rows of some frames by lane, with their times beside them. */
+  rowsOf(frames) {
+    const rows = this.lanes.map(() => ({ time: [], frame: [] }));
+    for (const i of [...frames].sort((a, b) => a - b)) {
+      const row = rows[this.sortOf(i).lane];
       row.time.push(this.time[i]);
       row.frame.push(i);
     }
-    this.lanes.forEach((lane, n) => { lane.kinds = this.kinds.map((_, kind) => kind).filter(kind => sizes[n * kinds + kind]); });
+    return rows;
   }
 
   /** Flags by lane: notes, emergencies and events of the scenario. */
@@ -166,8 +218,8 @@ class Trace {
     const next = (this.found || []).map(row => row.frame[firstAt(row.time, time)]).filter(each => each !== undefined);
     return next.length ? Math.min(...next) : null;
   }
-  sortOf(frame) { return this.sorts[this.sort[frame]]; }
-  slot(frame) { return this.sorts[this.sort[frame]].slot; }
+  sortOf(frame) { return this.sorts[this.sort[frame]] || this.goneSorts[this.sort[frame] - this.sorts.length]; }
+  slot(frame) { return this.sortOf(frame).slot; }
   identifier(frame) { return hexadecimal(this.sortOf(frame).identifier, 3); }
 
   bytes(frame) {
@@ -179,7 +231,13 @@ class Trace {
   said(frame) {
     const text = this.sortOf(frame).text;
     if (typeof text === "string") return { subject: text, values: [] };
-    return { subject: text[0], values: text[1] ? valuesOf(text[1], this.bytes(frame)) : [] };
+    return { subject: text[0], values: text[1] ? this.pairs(frame).map(([label, value]) => value ? `${label}=${value}` : label) : [] };
+  }
+
+  /** Of a PDO whose values are known, each label with its value. */
+  pairs(frame) {
+    const { text } = this.sortOf(frame);
+    return typeof text === "string" || !text[1] ? [] : valuesOf(text[1], this.bytes(frame));
   }
 
   text(frame) {
