@@ -110,8 +110,8 @@ class ClockedBus(Received):
         self.recorded.append((self.clock.now, identifier, data))
         if sender is self:
             self.frames.append((identifier, data))
-        else:
-            self.arrived.append(self.can.Message(timestamp=self.clock.time(), arbitration_id=identifier, data=data, is_extended_id=False))
+        self.arrived.append(self.can.Message(timestamp=self.clock.time(), arbitration_id=identifier, data=data,
+                                             is_extended_id=False, is_rx=sender is not self))
         for each in self.senders:
             if each is not sender:
                 self.put(each, each.take(identifier, data))

@@ -5,7 +5,9 @@ import struct
 import subprocess
 import sys
 
+import bus_clock
 import bus_device
+import bus_running
 from bus_scene import Rack, here, on_bus, python_can
 from helper import COBTOOL, Skipped, is_refused, put, recorded
 
@@ -217,6 +219,29 @@ def test_the_log_has_each_frame_as_candump_writes_it():
     assert all(line[0] == "(" and line[11] == "." and line[18:20] == ") " for line in lines), lines
     assert sorted(lines) == lines
     is_refused(on_bus_refused("--log", "no/bus.log"), "no/bus.log: No such file or directory")
+
+
+def test_the_log_has_what_was_sent_when_it_was_on_the_bus():
+    """At 250 kbit/s three frames of eight bytes wait before the request: each takes 111 bits, 444 us."""
+    put("a.eds", SHEET)
+    made = bus_running.Running(5, SHEET.split(b"\n"))
+    bus = bus_clock.ClockedBus([made], 250)
+    bus.put(made, [(identifier, bytes(8)) for identifier in (0x081, 0x082, 0x083)])
+    with bus_clock.used(bus):
+        status, _, faults = here("bus", "read", "--log", "bus.log", "--interface", "virtual", 5, 2009, 0)
+    found = [(line.split()[2][:3], int(line[12:18])) for line in open("bus.log")]
+    assert status == 0 and found == [("081", 444), ("082", 888), ("083", 1332), ("605", 1776), ("585", 2220)], (faults, found)
+
+
+def test_the_last_frame_is_waited_for():
+    """A command is on the bus before the adapter is closed, though the bus is full; the log has it."""
+    made = bus_running.Running(5, SHEET.split(b"\n"))
+    bus = bus_clock.ClockedBus([made], 250)
+    bus.put(made, [(0x081, bytes(8))])
+    with bus_clock.used(bus):
+        words = "--yes", "--force", "--listen", "0", "--log", "bus.log", "--interface", "virtual"
+        status, _, faults = here("bus", "nmt", *words, "stop", 5)
+    assert status == 0 and made.state == bus_device.STOPPED and [line.split()[2] for line in open("bus.log")][-1] == "000#0205", faults
 
 
 def on_bus_refused(*words):

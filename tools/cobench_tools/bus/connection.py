@@ -1,6 +1,7 @@
 """The bus as python-can opens it: frames out and in, each of them into the log."""
 import argparse
 import collections
+import contextlib
 import logging
 import os
 import time
@@ -18,10 +19,13 @@ UNNAMED = ("no adapter is named: by --interface and --channel, by CAN_INTERFACE 
 
 FULL = 1.0              # seconds for which a frame may wait for the adapter
 PAUSE = 0.001           # seconds between two tries
+PACE = 0.002            # seconds between two frames that wait for no answer, so that no adapter is flooded, nor the bus
 MOST_WAITING = 10_000   # frames that are taken at once
 SAME_CLOCK = 2.0        # seconds by which the adapter's clock may differ and still be the computer's
 LEAST_RATE, LEAST_VERSION = 5_000, 4
-ECHOING = ("udp_multicast",)    # interfaces that give back what was sent
+CONFIRMED = 0.05        # seconds for which what was sent last may be on its way to the bus
+ECHOING = ("udp_multicast",)            # interfaces that give back what was sent as a frame of others
+CONFIRMING = ("socketcan", "virtual")   # those that give it back, as what was sent, once it was on the bus
 
 
 def python_can() -> Any:
@@ -79,6 +83,9 @@ def opened(options: argparse.Namespace, planned: Optional[int] = None, is_silent
     """The connection that the words of a command want; `planned` is the script's bit rate in kbit/s."""
     can = python_can()
     config = configured(can, options, 1000 * planned if planned else None)
+    is_confirmed = config.get("interface") in CONFIRMING
+    if is_confirmed:
+        config["receive_own_messages"] = True
     try:
         bus = can.Bus(**config)
     except (can.CanError, OSError, ValueError, TypeError, ImportError, AttributeError) as error:
@@ -90,6 +97,7 @@ def opened(options: argparse.Namespace, planned: Optional[int] = None, is_silent
         bus.shutdown()
         raise
     connection = Connection(can, bus, log, is_silent)
+    connection.is_confirmed = is_confirmed
     connection.has_echo, connection.name = config.get("interface") in ECHOING, channel_word(config.get("channel"))
     return connection
 
@@ -104,15 +112,16 @@ class Connection:
     aside      how many frames came that CANopen doesn't have
     name       that of the channel, in one word
     has_echo   whether each frame that was sent comes back as one of another
+    is_confirmed  whether each comes back once it was on the bus; the log has it then. So many are still to come: `unconfirmed`
     """
 
     clock: Any = time
-    has_echo, name = False, "can0"
+    has_echo, is_confirmed, name = False, False, "can0"
 
     def __init__(self, can: Any, bus: Any, log: Optional[FrameLog] = None, is_silent: bool = False) -> None:
         self.can, self.bus, self.log, self.is_silent = can, bus, log, is_silent
         self.offset: Optional[float] = None
-        self.aside = 0
+        self.aside = self.unconfirmed = 0
         self.observers: List[Callable[[Frame], None]] = []
         self.echoes: Deque[Tuple[int, bytes]] = collections.deque(maxlen=MOST_WAITING)
 
@@ -120,6 +129,10 @@ class Connection:
         return self
 
     def __exit__(self, *_: object) -> None:
+        until = self.clock.monotonic() + CONFIRMED
+        with contextlib.suppress(tool.Fault):
+            while self.unconfirmed and self.message(until):
+                pass
         self.bus.shutdown()
         if self.log:
             self.log.close()
@@ -132,7 +145,8 @@ class Connection:
         until = self.clock.monotonic() + FULL
         if self.has_echo:
             self.echoes.append((identifier, bytes(data)))
-        if self.log:
+        self.unconfirmed += self.is_confirmed
+        if self.log and not self.is_confirmed:
             self.log.put(int(self.clock.time() * 1e6), text_of(message))
         while True:
             try:
@@ -161,7 +175,7 @@ class Connection:
             message = self._received(max(left, 0))
             if message is None and left <= 0:
                 return None
-            if message is not None and (message.is_error_frame or message.is_rx and not self._is_echo(message)):
+            if message is not None and not self._is_own(message):
                 self._take(message)
                 return message
 
@@ -186,6 +200,15 @@ class Connection:
             self.aside += 1
             return None
         return Frame(round(message.timestamp * 1e6), message.arbitration_id, bytes(message.data))
+
+    def _is_own(self, message: Any) -> bool:
+        """Whether a message was sent here and comes back."""
+        if message.is_error_frame or message.is_rx:
+            return not message.is_error_frame and self._is_echo(message)
+        if self.unconfirmed:
+            self.unconfirmed -= 1
+            self._take(message)
+        return True
 
     def _is_echo(self, message: Any) -> bool:
         """Whether a message is the next one of those that were sent and come back; some may be lost."""

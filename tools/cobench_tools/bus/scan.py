@@ -2,12 +2,10 @@
 from typing import Callable, Dict, Optional
 
 from . import identity
-from .connection import Connection
+from .connection import PACE, Connection
 from .neighbours import Neighbours
 from .sdo_client import SdoClient
 from .transfer import ANSWERS, REQUESTS, Failed, entry_of, named
-
-PACE = 0.002        # seconds between two requests, so that no adapter is flooded
 
 
 class Found:

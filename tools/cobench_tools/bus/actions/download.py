@@ -72,6 +72,7 @@ def reset(bus: connection.Connection, plan: planned.Planned, nodes: List[int], o
     before = {node: others.boots.get(node, 0) for node in nodes}
     for node in nodes:
         bus.send(0, bytes([RESET, node]))
+        bus.listen(connection.PACE)
     neighbours.wait(bus, BOOTING, lambda: all(others.boots.get(node, 0) > before[node] for node in nodes))
 
 
