@@ -38,7 +38,7 @@ class Awaited:
 
     def since(self):
         """From when it has to come, after how long at the soonest; where that isn't known, None and why."""
-        since, after, why = self.judge.up()
+        since, after, why = self.judge.whole_since()
         return (since, after, why) if since is None else (max(since, self.stream.rested), after, why)
 
     def rests(self, longest):

@@ -2,7 +2,7 @@
 from ..logs.rows import key_of
 from ..plan import LEAST_IDENTIFIER
 from ..wiring import is_restricted
-from . import emergencies, follow, keys
+from . import consequences, emergencies, keys
 from .absence import Absences
 from .besides import Besides
 from .bus import Bus
@@ -115,7 +115,7 @@ class Judge:
         """A time, and the line of the first frame from it on."""
         return self.places.spot(time, self.bus.blocks)
 
-    def up(self):
+    def whole_since(self):
         """From when all that is planned has to be there, after how long at the soonest; where that isn't known, why."""
         missing = sum(node.first is None for node in self.nodes.values())
         since, after = self.startup.since(missing, missing == len(self.nodes))
@@ -153,7 +153,7 @@ class Judge:
         Unfinished(self).finish()
         if self.causes.alignment:
             self.absences.finish()
-        follow.fold(self)
+        consequences.fold(self)
         self.strays.finish()
 
     # Commands and landmarks.

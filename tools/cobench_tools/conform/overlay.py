@@ -107,6 +107,7 @@ class Overlay:
                 if kind != "emergency" or (time, lane) not in deviating]
 
     def content(self, title):
+        """What the page draws: the recorded windows, and the planned run as the last one."""
         rows = [list(row) for row in self.recorded.sorts.rows]
         count = len(rows)
         rows += [[identifier, kind, lane + PLANNED if lane != OTHERS else OTHERS, size, text]

@@ -28,7 +28,7 @@ class Presence:
             return None, 0, f"the state of {self.judge.plan.name(self.number)} isn't known"
         if self.judge.may_not_be_started():
             return None, 0, "the network may not be started, as a mandatory node isn't there"
-        return self.judge.up()
+        return self.judge.whole_since()
 
     def was_operational(self):
         """Whether it is known to be operational, or a PDO of it shows that it was."""

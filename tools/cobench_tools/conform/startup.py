@@ -19,7 +19,10 @@ class Startup:
     begin    the time of the first frame
     last     when a node booted or was configured last before the start was over, `begin` where none was
     is_seen  whether any node booted or was configured
-    is_slow  whether a node came later than in the planned run, at its `nth` time: the first one where the log has power-on
+    known    the boot-up messages and commands that came, of those that are planned; `anchor` has when the first one came, and
+             when it does so in the planned run
+    nth      by which of its planned times each is judged: the first one, or the last one where the log begins with a command
+    is_slow  whether one of them came later than in the planned run
     is_reordered  whether nodes boot in another order than in the planned run; `booted` is when the last one does so there
     latest   when a node booted or was configured last of all
     ends     when the start was over, by how long nothing of it came, BRIEF or LONG; none where it isn't over
