@@ -33,7 +33,7 @@ horizon 4000000
 
 
 def day_script():
-    """The script of docs/a_day_with_cobench.md: servo_axes as it is before its run, without its slips and queries."""
+    """The example servo_axes as it is before its run, without its slips and queries."""
     with open(example("servo_axes.txt")) as file:
         text = file.read()
     text = text[:text.index("trace\n")].replace("param 2 6080 0 7000\n", "param 2 6080 0 4500\n")

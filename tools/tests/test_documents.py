@@ -9,6 +9,7 @@ import re
 from helper import EXAMPLES, ROOT, example, file, is_fine, kept, put, recorded, run, session
 
 from cobench_tools import concise
+from cobench_tools.commands.live import PORT
 from cobench_tools.main import COMMANDS
 
 FOLDERS = "", "docs", "docs/rules", "examples", "tools", "bench"
@@ -67,6 +68,11 @@ def test_from_plan_to_machine_has_what_its_commands_tell():
     assert "[late]" not in told("load", "--allow", "refused", "--assume", "20000", "--window", "5000", "examples/servo_axes.txt")
 
 
+def alarms_of(script):
+    """When the run of a script has the emergency of a heartbeat that is missed, in microseconds."""
+    return [int(time) for time in re.findall(r"(?m)^([0-9]+) .* EMCY 8130h", told("explain", script))]
+
+
 def test_a_day_edits_the_example():
     """Each command of the page is run as it stands, but for `live`; each edit is one of a line of the example, and the slip is told as there."""
     text, script = page("docs", "a_day_with_cobench.md"), file(EXAMPLES, "network.txt").decode()
@@ -74,7 +80,7 @@ def test_a_day_edits_the_example():
     assert len(edits) == 3 and all(script.count(old + "\n") == 1 for old, _ in edits), edits
     blocks = blocks_of(text)
     commands = [line for block in blocks for line in block.splitlines() if line.startswith("tools/cobtool ")]
-    assert commands[0] == "tools/cobtool live --open examples/network.txt" and len(commands) == 5
+    assert commands[0] == "tools/cobtool live --open examples/network.txt" and len(commands) == 5 and f":{PORT}/" in text
     for command in commands[1:]:
         said = told(*command.partition(" > ")[0].split()[1:])
         assert "error" not in said.split("no errors")[0] or "<html" in said, (command, said)
@@ -83,9 +89,13 @@ def test_a_day_edits_the_example():
         os.symlink(os.path.join(EXAMPLES, name), name)
     put("network.txt", script.replace(*edits[1]).encode())
     assert told("check", "network.txt").startswith(slip)
+    put("network.txt", script.encode())
+    alarms = [alarms_of("network.txt")]
     for old, changed in (edits[0], edits[2]):
         put("network.txt", script.replace(old, changed).encode())
         assert told("check", "network.txt").startswith("no errors, no warnings; 4 of 4 nodes booted")
+        alarms.append(alarms_of("network.txt"))
+    assert len(alarms[0]) == len(alarms[2]) == 1 and alarms[0][0] - alarms[2][0] in range(99_000, 101_000), alarms
 
 
 def test_from_plan_to_machine_has_the_columns_of_the_load():

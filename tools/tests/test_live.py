@@ -23,7 +23,7 @@ from cobench_tools.live.server import Server
 from cobench_tools.commands.live import PORT
 from cobench_tools.picture import Drawing, Sorts, Window
 from helper import BINARY, COBTOOL, EXAMPLES, ROOT, file, is_refused, put, recorded, recorded_replies, run, run_alone
-from live_scene import FOLDER, Scene, day_script, wait_until, window_of, words
+from live_scene import FOLDER, Scene, wait_until, window_of, words
 
 
 def value(items, node, entry):
@@ -424,21 +424,6 @@ def test_browsers_get_all_and_then_what_is_new():
 
 
 # The command, and what the documents say of it.
-
-def test_the_day_in_the_documents_has_what_check_says():
-    document = file(ROOT, "docs", "a_day_with_cobench.md").decode()
-    for name in ("servo_drive.eds", "motion_controller.eds"):
-        put(name, file(EXAMPLES, name))
-    put("network.txt", day_script().encode())
-    assert run("check", "--cobench", recorded(), "network.txt")[:2] == (0, b"no errors, no warnings; 3 of 3 nodes booted by 25.010 ms\n")
-    slip = ("sink y_actual 1 10 2200 2\n", "sink y_actual 1 10 2201 2\n")
-    put("network.txt", day_script().replace(*slip).encode())
-    told = run("check", "--cobench", recorded(), "network.txt")[1].decode().splitlines()
-    assert len(told) == 2 and f"    {told[0]}\n" in document, told
-    assert all(word.strip() in document for word in slip) and str(PORT) in document
-    put("network.txt", day_script().replace("param 10 1016 2 0x00020096", "param 10 1016 2 0x0002012C").encode())
-    assert b" EMCY " not in run("explain", "network.txt", "-", given=recorded_replies(run("expand", "network.txt")[1] + b"trace\n"))[1]
-
 
 def test_live_says_why_it_cannot():
     put("net.txt", b"bitrate 500\n")
