@@ -16,10 +16,10 @@ ANSWERS = range(0x580, 0x600)
 
 
 class Clock:
-    """What `time` is elsewhere; `now` are the microseconds since it began."""
+    """What `time` is elsewhere; `now` are the microseconds since it began, and `sleep` has the bus go on."""
 
-    def __init__(self):
-        self.now = 0
+    def __init__(self, sleep):
+        self.now, self.sleep = 0, sleep
 
     def monotonic(self):
         return self.now / 1e6
@@ -67,7 +67,7 @@ class ClockedBus(Received):
 
     def __init__(self, senders, kilobits):
         self.can, self.senders, self.micros = python_can(), senders, 1000 // kilobits
-        self.clock, self.waiting, self.wire, self.free = Clock(), [], None, NEVER
+        self.clock, self.waiting, self.wire, self.free = Clock(self.run), [], None, NEVER
         self.arrived, self.recorded, self.frames = collections.deque(), [], []
 
     # As python-can has it.

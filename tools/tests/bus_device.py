@@ -394,6 +394,11 @@ def wrong_toggle(device, data):
     return [(identifier, bytes([answer[0] ^ 0x10]) + answer[1:]) for identifier, answer in device.answers(data)]
 
 
+def segment_of_nothing(device, data):
+    """A segment without a byte, behind which more are to come."""
+    return [(0x580 + device.number, b"\x0E" + bytes(7))]
+
+
 def reset(device, data):
     """It resets instead of answering."""
     return device.boot()

@@ -4,6 +4,7 @@ import pty
 import struct
 import subprocess
 import sys
+import time
 
 import bus_clock
 import bus_device
@@ -94,6 +95,7 @@ def test_what_a_device_refuses_or_does_wrong_is_told():
     abort = "node 5: 2005h:00 Entry 2005: "
     cases = [(1, bus_device.aborted(0x06090011), "abort 06090011 no such sub-index"), (1, bus_device.lost_request, "no answer in 300 ms"),
              (3, bus_device.lost_answer, "no answer in 300 ms"), (1, bus_device.reset, "its boot-up message came in the middle"),
+             (2, bus_device.segment_of_nothing, "abort 05040001 command not valid by this program: its segment has no byte, and isn't the last one"),
              (2, bus_device.wrong_toggle, "abort 05030000 toggle bit not alternated by this program: its segment has the wrong toggle bit"),
              (2, bus_device.twice, "an answer came that nothing asked for")]
     for number, fault, says in cases:
@@ -231,6 +233,24 @@ def test_the_log_has_what_was_sent_when_it_was_on_the_bus():
         status, _, faults = here("bus", "read", "--log", "bus.log", "--interface", "virtual", 5, 2009, 0)
     found = [(line.split()[2][:3], int(line[12:18])) for line in open("bus.log")]
     assert status == 0 and found == [("081", 444), ("082", 888), ("083", 1332), ("605", 1776), ("585", 2220)], (faults, found)
+
+
+def test_a_log_replaces_no_other_file():
+    put("a.eds", SHEET)
+    words = "read", "--eds", "a.eds", *QUICK, 5, 2009, 0
+    done = on_bus([device()], *words, "--log", "a.eds")
+    assert (done[0], done[1]) == (2, "") and done[2] == "cobtool: a.eds is there, and is no log: it isn't replaced\n", done
+    assert open("a.eds", "rb").read() == SHEET and not done[3].frames
+    for content in (b"", b"(1.000000) can0 705#05\n"):
+        put("bus.log", content)
+        assert on_bus([device()], *words, "--log", "bus.log")[0] == 0 and len(open("bus.log").readlines()) == 2
+
+
+def test_error_frames_without_end_hold_up_nothing():
+    """An adapter that is alone on its bus gives them faster than they are taken."""
+    can = python_can()
+    bus = type("Bus", (), {"recv": lambda self, seconds: can.Message(timestamp=time.time(), is_error_frame=True)})()
+    assert connection.Connection(can, bus).receive(time.monotonic() + 0.01) is None
 
 
 def test_the_last_frame_is_waited_for():

@@ -201,6 +201,29 @@ def test_ctrl_c_leaves_the_node_unstarted_and_says_what_is_written():
     assert rack.requests(5)[-1].hex() == "8001200000000008", "the open transfer is ended"
 
 
+class Unplugged(bus_clock.ClockedBus):
+    """A bus whose adapter is pulled out after so many frames that were sent."""
+
+    left = 6
+
+    def send(self, message, timeout=None):
+        if not self.left:
+            raise self.can.CanError("unplugged")
+        self.left -= 1
+        super().send(message)
+
+
+def test_where_the_adapter_fails_it_is_told_what_is_written():
+    path = script()
+    made = [bus_running.Running(number, SHEET.encode().split(b"\n")) for number in (5, 6)]
+    with bus_clock.used(Unplugged(made, 250)):
+        status, output, faults = here("bus", "download", *QUICK, "--interface", "virtual", "--cobench", recorded(), path)
+    assert status == 2 and faults == "cobtool: the adapter takes no frame: unplugged\n", faults
+    assert output.startswith("node 5 pump: 2 of 9 writes are confirmed, the last one 2001h:00 Speed := 300 (12Ch); whether 2002h:00 Command := 7 "
+                             "is written isn't known; the node isn't started\nnode 6 fan: nothing is written\n"), output
+    assert not made[0].starts and made[0].entries[0x2001, 0].data == b"\x2C\1"
+
+
 KINDS = {"lost request": bus_device.lost_request, "lost answer": bus_device.lost_answer, "abort": bus_device.aborted(), "wrong toggle":
          bus_device.wrong_toggle, "reset": bus_device.reset, "reset behind": bus_device.reset_behind, "quiet reset": bus_device.quiet_reset,
          "twice": bus_device.twice, "slow": bus_device.slow(0.02), "dies": bus_device.dies}

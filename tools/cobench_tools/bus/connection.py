@@ -20,7 +20,7 @@ UNNAMED = ("no adapter is named: by --interface and --channel, by CAN_INTERFACE 
 FULL = 1.0              # seconds for which a frame may wait for the adapter
 PAUSE = 0.001           # seconds between two tries
 PACE = 0.002            # seconds between two frames that wait for no answer, so that no adapter is flooded, nor the bus
-MOST_WAITING = 10_000   # frames that are taken at once
+MOST_WAITING = 1_000    # frames that are taken at once
 SAME_CLOCK = 2.0        # seconds by which the adapter's clock may differ and still be the computer's
 LEAST_RATE, LEAST_VERSION = 5_000, 4
 CONFIRMED = 0.05        # seconds for which what was sent last may be on its way to the bus
@@ -137,7 +137,7 @@ class Connection:
         if self.log:
             self.log.close()
 
-    def send(self, identifier: int, data: bytes) -> Any:
+    def send(self, identifier: int, data: bytes) -> None:
         """Sends a frame, waiting a while for an adapter that is full."""
         if self.is_silent:
             raise tool.Fault("nothing is sent here")
@@ -145,27 +145,33 @@ class Connection:
         until = self.clock.monotonic() + FULL
         if self.has_echo:
             self.echoes.append((identifier, bytes(data)))
+        while not self._is_sent(message, until):
+            self.clock.sleep(PAUSE)
         self.unconfirmed += self.is_confirmed
         if self.log and not self.is_confirmed:
             self.log.put(int(self.clock.time() * 1e6), text_of(message))
-        while True:
-            try:
-                return self.bus.send(message, timeout=FULL)
-            except (self.can.CanError, OSError) as error:
-                if self.clock.monotonic() > until:
-                    raise tool.Fault(f"the adapter takes no frame: {error}") from None
-                self.clock.sleep(PAUSE)
+
+    def _is_sent(self, message: Any, until: float) -> bool:
+        """Whether the adapter takes a message; by a time of the monotonic clock it has to."""
+        try:
+            self.bus.send(message, timeout=FULL)
+            return True
+        except (self.can.CanError, OSError) as error:
+            if self.clock.monotonic() > until:
+                raise tool.Fault(f"the adapter takes no frame: {error}") from None
+            return False
 
     def receive(self, until: float) -> Optional[Frame]:
         """The next frame of the others, or None where there is none by a time of the monotonic clock."""
-        message = self.message(until)
+        message, late = self.message(until), 0
         while message is not None:
             frame = self._frame(message)
             if frame:
                 for observer in self.observers:
                     observer(frame)
                 return frame
-            message = self.message(until)
+            late += self.clock.monotonic() > until      # error frames may come faster than they are taken
+            message = self.message(until) if late < MOST_WAITING else None
         return None
 
     def message(self, until: float) -> Any:

@@ -1,4 +1,5 @@
 """The log of what was sent and received, as candump -L writes it and `conform` reads it."""
+import os
 import re
 from typing import Any
 
@@ -12,12 +13,22 @@ def channel_word(channel: Any) -> str:
     return re.sub("[^A-Za-z0-9_]", "_", str(channel or "")) or "can0"
 
 
+def may_be_replaced(path: str) -> bool:
+    """Whether a file isn't there, is none with content, as a pipe, or begins as a log."""
+    if not os.path.isfile(path):
+        return True
+    with open(path, "rb") as file:
+        return file.read(1) in (b"", b"(")
+
+
 class FrameLog:
     """A log file that is written frame by frame; its times never go backwards."""
 
     def __init__(self, path: str, channel: Any) -> None:
         self.path, self.channel, self.last, self.lines = path, channel_word(channel), 0, 0
         try:
+            if not may_be_replaced(path):
+                raise tool.Fault(f"{path} is there, and is no log: it isn't replaced")
             self.file = open(path, "w", buffering=1, encoding="ascii", newline="\n")
         except OSError as error:
             raise tool.Fault(f"{path}: {error.strerror}") from None

@@ -2,8 +2,10 @@
 import argparse
 from typing import Callable, Dict, List, Optional, Set
 
+from .. import tool
 from ..meaning import STATES
 from ..trace import Frame
+from . import timing
 from .connection import Connection
 from .transfer import ANSWERS, BOOT_UPS, REQUESTS
 
@@ -14,7 +16,11 @@ LISTENING = 1.0         # seconds for which the bus is listened to before someth
 
 def seconds_of(options: argparse.Namespace) -> float:
     """How long the bus is listened to before the first frame is sent."""
-    return options.listen / 1000 if options.listen is not None else LISTENING
+    if options.listen is None:
+        return LISTENING
+    if not 0 <= options.listen <= timing.MOST:
+        raise tool.Fault(f"--listen is 0 to {timing.MOST:,} milliseconds, not {options.listen:,}")
+    return options.listen / 1000
 
 
 def add_arguments(parser: argparse.ArgumentParser) -> None:

@@ -22,9 +22,7 @@ def read(client: SdoClient, key: Key, size: Optional[int] = None) -> bytes:
         return client.read(key, size)
     client.check_entry(answer, 0xC0, key)
     data = received(client, with_sum=bool(answer[0] & 0x04))
-    announced = int.from_bytes(answer[4:8], "little")
-    if answer[0] & 0x02 and len(data) != announced:
-        raise client.abort(COMMAND, f"{len(data):,} bytes came, and {announced:,} were announced")
+    client.check_length(data, int.from_bytes(answer[4:8], "little") if answer[0] & 0x02 else None, True)
     client.put(b"\xA1" + bytes(7))
     client.key = None
     return data
@@ -37,6 +35,7 @@ def received(client: SdoClient, with_sum: bool) -> bytes:
     while not is_last:
         parts, is_last = block_of(client)
         data, repeats = data + b"".join(parts), repeats + (not parts)
+        client.check_length(data, None, False)
         if repeats > MOST_REPEATS:
             raise client.abort(SEQUENCE, "its segments don't come in their order")
         client.put(bytes([0xA2, len(parts), MOST_SEGMENTS]) + bytes(5))

@@ -10,6 +10,7 @@ from .transfer import (ANSWERS, BOOT_UPS, COMMAND, GENERAL, REQUESTS, TIMED_OUT,
                        Key, Unanswered, entry_of, named)
 
 SEGMENT = 7
+MOST = 64 << 20     # bytes of a value
 UNASKED = "an answer came that nothing asked for: two devices have this number, or another program talks with it"
 FOREIGN = "another program sends SDO requests to it"
 
@@ -61,11 +62,18 @@ class SdoClient:
             answer = self.ask(bytes([0x60 | toggle << 4]) + bytes(7))
             self.check_command(answer, 0xE0, 0x00, "a segment")
             self._check_toggle(answer, toggle)
-            data += answer[1:8 - (answer[0] >> 1 & 7)]
-            toggle, is_last = 1 - toggle, bool(answer[0] & 0x01)
-            if size is not None and (len(data) > size or is_last and len(data) < size):
-                raise self.abort(COMMAND, f"{len(data):,} bytes came, and {size:,} were announced")
+            part, is_last = answer[1:8 - (answer[0] >> 1 & 7)], bool(answer[0] & 0x01)
+            if not part and not is_last:
+                raise self.abort(COMMAND, "its segment has no byte, and isn't the last one")
+            data, toggle = data + part, 1 - toggle
+            self.check_length(data, size, is_last)
         return data
+
+    def check_length(self, data: bytes, size: Optional[int], is_whole: bool) -> None:
+        """Whether so many bytes can come; `size` is how many were announced, None where that wasn't said."""
+        if len(data) > (MOST if size is None else size) or is_whole and size is not None and len(data) < size:
+            announced = f"{size:,} were announced" if size is not None else f"at most {MOST:,} are taken"
+            raise self.abort(COMMAND, f"{len(data):,} bytes came, and {announced}")
 
     def _send_segments(self, data: bytes) -> None:
         """Sends bytes in segments; an empty value is one segment of none."""

@@ -1,5 +1,6 @@
 """Configures and starts the nodes of a script as its manager does."""
 import argparse
+import contextlib
 from typing import List
 
 from ... import acceptance, findings, tool
@@ -29,8 +30,8 @@ where another master is there, where a node is operational (--reset resets each 
 first), and where SCRIPT has errors that aren't accepted; --force does it all the
 same. Ctrl-C ends it: the node in hand isn't started, and what is written is told.
 
-Status: 0, 1 where a node isn't configured, 2 where nothing was written, 130 after
-Ctrl-C.
+Status: 0, 1 where a node isn't configured, 2 where nothing was written or the adapter
+fails, 130 after Ctrl-C.
 
   cobtool bus download --interface socketcan --channel can0 --log boot.log network.txt"""
 
@@ -117,16 +118,17 @@ def run(options: argparse.Namespace) -> int:
 
 def done(plan: planned.Planned, nodes: List[int], bus: connection.Connection, others: neighbours.Neighbours,
          options: argparse.Namespace) -> int:
-    """Boots the nodes, and says what became of them, also where the user ends it."""
+    """Boots the nodes, and says what became of them, also where the user ends it or the adapter fails."""
     clients = [SdoClient(bus, node, timing.seconds_of(options, plan.timeout)) for node in nodes]
     downloads = [Download(plan, client, others, not options.no_read_back) for client in clients]
     network = Network(plan, downloads, bus, others)
     try:
         with Progress(sum(len(each.writes) for each in downloads), "writes") as progress:
             network.run(progress.step, not options.no_start)
-    except KeyboardInterrupt:
+    except (KeyboardInterrupt, tool.Fault):
         for each in downloads:
-            each.client.give_up()
+            with contextlib.suppress(tool.Fault):
+                each.client.give_up()
         tool.put(report(plan, network, False))
         raise
     tool.put(report(plan, network, not options.no_start))
