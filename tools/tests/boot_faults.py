@@ -131,7 +131,10 @@ def boots_twice(recording):
 
 
 def never_boots(recording):
-    """Nothing of a node is there, in a recording that goes on behind the boots of all."""
+    """Nothing of a node is there, in a recording that goes on behind the boots of all.
+
+    The one that boots first may have done so before the recording, if it has no heartbeat.
+    """
     boots = recording.places(lambda time, identifier, data: 0x580 < identifier < 0x680 or identifier > 0x700 and data == b"\0")
     if not boots or recording.frames[boots[-1]][0] > recording.end - START_OVER:
         return None
@@ -139,6 +142,8 @@ def never_boots(recording):
     if len(nodes) < 2:
         return None
     node = recording.dice.one(nodes)
+    if node == min(nodes, key=lambda each: recording.of(0x700 + each)[0]) and not recording.plan.nodes[node].heartbeat:
+        return None
     own = {0x700 + node, 0x580 + node, 0x80 + node} | {tpdo.identifier for tpdo in recording.plan.wiring.tpdos if tpdo.node == node}
     return recording.filled(lambda place, frame: frame[1] in own), "never-seen", None
 
