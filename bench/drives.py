@@ -6,7 +6,7 @@ examples/servo_drive.eds with a horizon of 20 ms: without a query, with `diag` t
 `trace` twenty times.
 
 Prints the milliseconds of the processor for one query. Asserts under 50 of them for each, and the
-replies: no diagnostics, and the lines of a trace, as many as a plain program of the same rules gives.
+replies: no diagnostics, and the lines of a trace, as many as the plain program (reference/cobench) gives.
 Run it from anywhere: bench/drives.py crates/cobench/out/cobench
 """
 import os

@@ -114,7 +114,7 @@ def is_right(replies, edits, kind):
     """Quiet: a boot-up, a note and a start for each node, and the manager's boot-up behind them.
 
     Node k boots up at 55 + 118 (k - 1) and is started 63 later, since starts have the least identifier.
-    What is awaited of `synced` and `long` is by a plain program of the same rules."""
+    What is awaited of `synced` and `long` is by the plain program (reference/cobench)."""
     lines = replies[edits + 1:]
     configured = sum(line.endswith(b" configured") for line in lines)
     if replies[:edits] != [b"ok"] * edits or replies[edits] != b"lines %d" % len(lines) or configured != NODES:

@@ -1,0 +1,26 @@
+"""Worked rows, mixed and changed."""
+from worked_rows import rows_of
+
+from .texts import NUMBERS
+from .words import WORDS
+
+
+def script(r):
+    """Two of the worked rows, one behind the other, with some lines changed, added or exchanged."""
+    rows = [row.script for row in rows_of(2) if len(row.script) < 4000]
+    lines = b"".join(r.sample(rows, 2)).split(b"\n")
+    for _ in range(r.randrange(1, 8)):
+        place, way = r.randrange(len(lines)), r.randrange(4)
+        if way == 0:
+            lines[place] = r.choice(WORDS + NUMBERS)
+        elif way == 1:
+            lines.insert(place, r.choice([b"dcf 5", b"diag", b"project", b"cdcf 5", b"version 2",
+                                          b"need 5 mandatory", b"event 9 700 nmt 130 5"]))
+        elif way == 2 and lines[place]:
+            words = lines[place].split(b" ")
+            words[r.randrange(len(words))] = r.choice(WORDS + NUMBERS)
+            lines[place] = b" ".join(words)
+        else:
+            other = r.randrange(len(lines))
+            lines[place], lines[other] = lines[other], lines[place]
+    return b"\n".join(lines)

@@ -1,0 +1,142 @@
+"""The forms and limits of commands: docs/rules/commands.md.
+
+Version 3 has `receive` and `unreceive`; a program whose newest version is 2 knows neither these nor `version 3`."""
+import re
+from typing import Callable, Dict, List, NamedTuple, Optional, Tuple
+
+from .entries import DataSheet
+from .faults import RANGE, SYNTAX, TRUNCATED, refuse_unless
+from .ini_text import LONGEST_LINE
+from .project import Event
+from .write_check import is_of_pdos
+
+NEWEST_VERSION = 3
+MOST_LINES = 65_536
+BLANK_RUN = re.compile(rb"[ \t]+")
+NAME, DECIMAL, REST = re.compile(rb"[A-Za-z0-9_]{1,32}"), re.compile(rb"[0-9]{1,10}"), re.compile(rb".{1,4000}", re.S)
+INDEX_DIGITS, SUB_DIGITS, COB_DIGITS = (re.compile(rb"[0-9A-Fa-f]{1,%d}" % digits) for digits in (4, 2, 3))
+
+
+class Command(NamedTuple):
+    """An edit with its arguments, or a query."""
+    word: bytes
+    arguments: Tuple
+
+
+class Form(NamedTuple):
+    """How a word is spelled, what it says, and which of these are allowed."""
+    spelling: "re.Pattern[bytes]"
+    meaning: Callable
+    is_allowed: Callable = lambda value: True
+
+
+def number(low, high, *others):
+    return Form(DECIMAL, int, lambda value: low <= value <= high or value in others)
+
+
+def number_of(*allowed):
+    return Form(DECIMAL, int, lambda value: value in allowed)
+
+
+def hexadecimal(digits, is_allowed=lambda value: True):
+    return Form(digits, lambda text: int(text, 16), is_allowed)
+
+
+def one_of(*words):
+    return Form(re.compile(b"|".join(words)), lambda text: text)
+
+
+ID, NAMED, POSITION, WORD, K, TIME = (number(1, 127), Form(NAME, bytes), number(1, 64), number(0, 65_535), number(1, 10_000),
+                                      number(0, 10_000_000))
+INDEX, SUB, COB_ID = hexadecimal(INDEX_DIGITS), hexadecimal(SUB_DIGITS), hexadecimal(COB_DIGITS, lambda value: value <= 0x7FF)
+OWN_INDEX = hexadecimal(INDEX_DIGITS, lambda value: not is_of_pdos(value))
+TEXT = Form(REST, bytes)
+
+FORMS: Dict[bytes, List[Form]] = {
+    b"version": [number(1, NEWEST_VERSION)],
+    b"bitrate": [number_of(10, 20, 50, 125, 250, 500, 1000)],
+    b"horizon": [TIME],
+    b"manager": [ID, number(1_000, 10_000_000, 0), WORD, number(1, 65_535)],
+    b"sync-counter": [number(2, 240, 0)],
+    b"drop-eds": [NAMED],
+    b"node": [ID, NAMED, NAMED],
+    b"need": [ID, one_of(b"mandatory", b"optional")],
+    b"drop-node": [ID],
+    b"param": [ID, OWN_INDEX, SUB, TEXT],
+    b"unparam": [ID, INDEX, SUB],
+    b"message": [NAMED, ID, number(1, 512), number(0, 255), WORD, WORD, COB_ID],
+    b"start": [NAMED, number(0, 240)],
+    b"drop-message": [NAMED],
+    b"source": [NAMED, POSITION, INDEX, SUB],
+    b"unsource": [NAMED, POSITION],
+    b"sink": [NAMED, POSITION, ID, INDEX, SUB],
+    b"unsink": [NAMED, POSITION, ID],
+    b"receive": [NAMED, ID, number(0, 512), WORD],
+    b"unreceive": [NAMED, ID],
+    b"event set": [K, TIME, one_of(b"set"), ID, OWN_INDEX, SUB, TEXT],
+    b"event power": [K, TIME, one_of(b"power"), ID, one_of(b"on", b"off")],
+    b"event nmt": [K, TIME, one_of(b"nmt"), number_of(1, 2, 128, 129, 130), number(0, 127)],
+    b"drop-event": [K],
+    b"dcf": [ID], b"cdcf": [ID], b"diag": [], b"trace": [], b"project": [],
+}
+QUERIES = (b"dcf", b"cdcf", b"diag", b"trace", b"project")
+OF_VERSION_3 = (b"receive", b"unreceive")
+
+
+def words_of(line, at_most=0):
+    """The words of a line; with a number the last of so many is the rest of the line."""
+    line = line.strip(b" \t")
+    return BLANK_RUN.split(line, at_most - 1 if at_most else 0) if line else []
+
+
+def is_bad_line(line):
+    return len(line) > LONGEST_LINE or any(byte < 0x20 and byte != 0x09 for byte in line)
+
+
+def block_lines(line) -> Optional[int]:
+    """How many lines an `eds` line takes, else None."""
+    words = words_of(line)
+    takes_block = len(words) == 3 and words[0] == b"eds" and DECIMAL.fullmatch(words[2]) and int(words[2]) <= MOST_LINES
+    return int(words[2]) if takes_block else None
+
+
+def forms_of(words, newest):
+    """The forms of the words behind the first; those of an event depend on its kind."""
+    name = b" ".join([words[0], *words[3:4]]) if words[0] == b"event" else words[0]
+    refuse_unless(name in FORMS and (newest >= 3 or name not in OF_VERSION_3), SYNTAX)
+    return FORMS[name]
+
+
+def command_of(line, newest=NEWEST_VERSION):
+    """The command of a line with words that takes no block. The forms of all words are judged before any limit."""
+    refuse_unless(not is_bad_line(line), SYNTAX)
+    forms = forms_of(words_of(line), newest)
+    first, *words = words_of(line, len(forms) + 1 if TEXT in forms else 0)
+    refuse_unless(len(words) == len(forms) and all(form.spelling.fullmatch(word) for form, word in zip(forms, words)), SYNTAX)
+    values = [form.meaning(word) for form, word in zip(forms, words)]
+    refuse_unless(all(form.is_allowed(value) for form, value in zip(forms, values)), RANGE)
+    refuse_unless(first != b"version" or values[0] <= newest, RANGE)
+    return Command(first, arguments_of(first, values))
+
+
+def arguments_of(word, values):
+    if word == b"event":
+        return values[0], event_of(*values[1:])
+    return (values[0], values[1] == b"mandatory") if word == b"need" else tuple(values)
+
+
+def event_of(time, kind, *rest):
+    if kind == b"set":
+        node, index, sub, text = rest
+        return Event(time, "set", node, place=(index, sub), text=text)
+    if kind == b"power":
+        return Event(time, "power", rest[0], is_on=rest[1] == b"on")
+    return Event(time, "nmt", rest[1], service=rest[0])
+
+
+def eds_command(line, lines, is_cut):
+    """The command of an `eds` line with its block; is_cut: the input ended inside it."""
+    refuse_unless(not is_cut, TRUNCATED)
+    name = words_of(line)[1]
+    refuse_unless(not is_bad_line(line) and NAME.fullmatch(name), SYNTAX)
+    return Command(b"eds", (name, lines, DataSheet(b"".join(each + b"\n" for each in lines))))

@@ -1,0 +1,244 @@
+"""A simulated device at a moment: docs/rules/devices.md. Moments are microseconds from the power-on of the network."""
+from . import sdo
+from .frames import EMERGENCY, ERROR_CONTROL, NMT, SDO_ANSWER, SDO_REQUEST, SYNC, Frame, WaitingFrames, boot_up_message
+from .pdos import APPLIED, KEPT, SHORT, Tpdo, identifier_of, mapping_now, pdo_of_object, pdos_of, receipt, works
+from .values import UNSIGNED8, UNSIGNED16, UNSIGNED32
+from .write_check import IDENTIFIER, is_rpdo_object, is_tpdo_object, number_at, pieces_of_payload, takes
+
+STOPPED, OPERATIONAL, PRE_OPERATIONAL = 4, 5, 127
+START, STOP, ENTER_PRE_OPERATIONAL, RESET_NODE, RESET_COMMUNICATION = 1, 2, 128, 129, 130
+PRODUCER_TIME = (0x1017, 0)
+ERROR_BITS = 0x11
+HEARTBEAT_FAILED, TOO_SHORT, NO_ERROR = 0x8130, 0x8210, 0x0000
+
+
+class Consumer:
+    """A heartbeat consumer: when it fails, and whether it has."""
+
+    def __init__(self):
+        self.moment = None
+        self.has_failed = False
+
+
+class Device:
+    """asks(part, node) is called where the device reads a part of the image."""
+
+    def __init__(self, number, shape, defaults, asks):
+        self.number, self.shape, self.defaults, self.asks = number, shape, defaults, asks
+        self.waiting = WaitingFrames()
+        pdos = pdos_of(shape)
+        self.tpdo_objects, self.rpdo_objects = (list(filter(is_one, pdos)) for is_one in (is_tpdo_object, is_rpdo_object))
+        self.consumer_subs = [sub for index, sub in sorted(shape.entries)
+                              if index == 0x1016 and sub >= 1 and shape.has_type(index, sub, UNSIGNED32)]
+        self.has_power = False
+        self.forget_all()
+
+    def number_at(self, index, sub, kind):
+        return number_at(self.shape, self.values, index, sub, kind)
+
+    # ------------------------------------------------------- power and reset
+
+    def power(self, is_on, now):
+        if is_on and not self.has_power:
+            self.has_power, self.values = True, dict(self.defaults)
+            self.initialise(now)
+        elif not is_on and self.has_power:
+            self.has_power = False
+            self.forget_all()
+
+    def reset(self, is_of_node, now):
+        for place, data in self.defaults.items():
+            if is_of_node or 0x1000 <= place[0] <= 0x1FFF:
+                self.values[place] = data
+        self.initialise(now)
+
+    def forget_all(self):
+        self.waiting.drop_all()
+        self.transfer = None
+        self.heartbeat = None
+        self.consumers = {sub: Consumer() for sub in self.consumer_subs}
+        self.tpdos = {pdo: Tpdo() for pdo in self.tpdo_objects}
+        self.kept_frames = {}                          # by RPDO
+        self.sync = None                               # that of this instant
+
+    def initialise(self, now):
+        self.asks("Defaults", self.number)
+        self.asks("Shape", self.number)
+        self.forget_all()
+        self.state = PRE_OPERATIONAL
+        self.waiting.add(("boot-up",), boot_up_message(self.number))
+        self.start_heartbeat(now)
+        self.working = {pdo: works(self, pdo) for pdo in self.tpdo_objects + self.rpdo_objects}
+
+    def start_heartbeat(self, now):
+        time = self.number_at(*PRODUCER_TIME, UNSIGNED16)
+        self.heartbeat = now + 1000 * time if time else None
+
+    # ---------------------------------------------------------------- writes
+
+    def set(self, place, data, now):
+        """By the application, whatever the access and the limits."""
+        if self.has_power:
+            self.write(place, data, now)
+
+    def write(self, place, data, now):
+        """By an event, SDO or an RPDO, with what it brings about."""
+        self.values[place] = data
+        if place == PRODUCER_TIME and self.shape.has_type(*place, UNSIGNED16):
+            self.start_heartbeat(now)
+        if place[0] == 0x1016 and place[1] in self.consumers:
+            was_failed, self.consumers[place[1]] = self.consumers[place[1]].has_failed, Consumer()
+            if was_failed and not self.any_failed():
+                self.set_error_bits(False)
+        pdo = pdo_of_object(place[0])
+        if pdo in self.working:
+            self.working[pdo] = works(self, pdo)
+            self.kept_frames.pop(pdo, None)
+            if pdo in self.tpdos:
+                self.tpdos[pdo] = Tpdo()
+
+    def any_failed(self):
+        return any(consumer.has_failed for consumer in self.consumers.values())
+
+    def set_error_bits(self, are_set):
+        """Generic and communication error of the error register."""
+        register = self.number_at(0x1001, 0, UNSIGNED8)
+        if register is not None:
+            self.values[0x1001, 0] = bytes([register | ERROR_BITS if are_set else register & ~ERROR_BITS])
+
+    def send_emergency(self, code):
+        if self.state != STOPPED:
+            register = self.number_at(0x1001, 0, UNSIGNED8) or 0
+            data = code.to_bytes(2, "little") + bytes([register]) + bytes(5)
+            self.waiting.add(("emergency",), Frame(EMERGENCY + self.number, data))
+
+    # ------------------------------------------------------------ NMT states
+
+    def enter(self, state):
+        if self.state == OPERATIONAL != state:
+            self.waiting.drop(lambda purpose: purpose[0] == "tpdo")
+            self.tpdos = {pdo: Tpdo() for pdo in self.tpdo_objects}
+            self.kept_frames = {}
+        if state == STOPPED != self.state:
+            self.waiting.drop(lambda purpose: purpose[0] in ("sdo", "emergency"))
+            self.transfer = None
+        self.state = state
+
+    def serve_nmt(self, frame, now):
+        if len(frame.data) != 2 or frame.data[1] not in (0, self.number):
+            return
+        states = {START: OPERATIONAL, STOP: STOPPED, ENTER_PRE_OPERATIONAL: PRE_OPERATIONAL}
+        service = frame.data[0]
+        if service in states:
+            self.enter(states[service])
+        elif service in (RESET_NODE, RESET_COMMUNICATION):
+            self.reset(service == RESET_NODE, now)
+
+    # ------------------------------------------------------- received frames
+
+    def take(self, frame, now):
+        """A frame of another node, by the first that fits."""
+        if not self.has_power:
+            return
+        if frame.id == NMT:
+            self.serve_nmt(frame, now)
+        elif frame.id == self.sync_identifier():
+            if self.state == OPERATIONAL:
+                self.take_sync(frame, now)
+        elif frame.id == SDO_REQUEST + self.number and len(frame.data) == 8:
+            if self.state != STOPPED:
+                self.serve_sdo(frame.data, now)
+        elif ERROR_CONTROL < frame.id <= ERROR_CONTROL + 127 and len(frame.data) == 1:
+            self.renew_consumers(frame.id - ERROR_CONTROL, now)
+        elif self.state == OPERATIONAL:
+            for pdo in self.rpdo_objects:
+                if self.working[pdo] and identifier_of(self, pdo) == frame.id:
+                    self.take_pdo(pdo, frame, now)
+
+    def sync_identifier(self):
+        cob_id = self.number_at(0x1005, 0, UNSIGNED32)
+        return SYNC if cob_id is None else cob_id & IDENTIFIER
+
+    def take_sync(self, frame, now):
+        """The frames that RPDOs keep are applied; the TPDOs of this SYNC have their turns later in this instant."""
+        for pdo in self.rpdo_objects:
+            if pdo in self.kept_frames:
+                self.apply(pdo, self.kept_frames.pop(pdo), now)
+        self.sync = frame
+
+    def serve_sdo(self, request, now):
+        self.asks("Shape", self.number)
+        after = sdo.server_answer(self.transfer, request, self.shape, self.values)
+        self.transfer = after.transfer
+        if after.written is not None:
+            self.write(*after.written, now)
+        if after.answer is not None:
+            self.waiting.add(("sdo", self.number), Frame(SDO_ANSWER + self.number, after.answer))
+
+    def take_pdo(self, pdo, frame, now):
+        becomes = receipt(self, pdo, frame)
+        if becomes == SHORT:
+            self.send_emergency(TOO_SHORT)
+        elif becomes == KEPT:
+            self.kept_frames[pdo] = frame.data
+        elif becomes == APPLIED:
+            self.apply(pdo, frame.data, now)
+
+    def apply(self, pdo, data, now):
+        self.asks("Shape", self.number)
+        for place, piece in pieces_of_payload(mapping_now(self, pdo), data):
+            if takes(self.shape, self.values, place, piece):
+                self.write(place, piece, now)
+
+    def watched(self, sub):
+        """The node that a consumer watches, and its time in milliseconds."""
+        value = self.number_at(0x1016, sub, UNSIGNED32)
+        return value >> 16 & 0xFF, value & 0xFFFF
+
+    def renew_consumers(self, producer, now):
+        """An error control frame starts and renews the consumers of its node, and ends their failures. None watches the device
+        itself, though the manager's heartbeat has the number of the controller."""
+        had_failed = False
+        for sub, consumer in self.consumers.items():
+            node, time = self.watched(sub)
+            if node == producer != self.number and time:
+                had_failed = had_failed or consumer.has_failed
+                consumer.moment, consumer.has_failed = now + 1000 * time, False
+        if had_failed and not self.any_failed():
+            self.set_error_bits(False)
+            self.send_emergency(NO_ERROR)
+
+    # ------------------------------------------------------ timers and TPDOs
+
+    def run_timers(self, now):
+        """The consumers by sub-index, then the heartbeat."""
+        if not self.has_power:
+            return
+        for consumer in self.consumers.values():
+            if consumer.moment == now:
+                consumer.moment, consumer.has_failed = None, True
+                self.set_error_bits(True)
+                self.send_emergency(HEARTBEAT_FAILED)
+                if self.state == OPERATIONAL:
+                    self.enter(PRE_OPERATIONAL)
+        if self.heartbeat == now:
+            self.start_heartbeat(now)
+            self.waiting.replace(("heartbeat",), Frame(ERROR_CONTROL + self.number, bytes([self.state])))
+
+    def send_tpdos(self, now):
+        if not self.has_power:
+            return
+        sync, self.sync = self.sync, None
+        for pdo, tpdo in self.tpdos.items():
+            tpdo.end_inhibit(now)
+            if self.state == OPERATIONAL and self.working[pdo]:
+                data = tpdo.turn(self, pdo, sync, now)
+                if data is not None:
+                    self.waiting.replace(("tpdo", pdo), Frame(identifier_of(self, pdo), data))
+
+    def moments(self):
+        """The due moments, some of which are None."""
+        if not self.has_power:
+            return []
+        return ([self.heartbeat] + [consumer.moment for consumer in self.consumers.values()]
+                + [moment for tpdo in self.tpdos.values() for moment in (tpdo.inhibit, tpdo.event)])

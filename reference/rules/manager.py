@@ -1,0 +1,157 @@
+"""The manager: the boot of each node, the start of the network, and what it sends by itself: docs/rules/manager.md.
+
+In version 3 the manager starts no node that it hasn't configured: where version 2 starts all nodes at once, each node that is
+configured is started by itself, by number. A node with the manager's number is the controller, the device that the manager
+runs in: it isn't booted, sends the boot-up message in the manager's place, and is started with the network, and from then on
+at each of its boot-ups."""
+from dataclasses import dataclass, replace
+from typing import Optional, Tuple
+
+from . import sdo
+from .devices import START
+from .entries import IDENTITY
+from .frames import ERROR_CONTROL, SDO_ANSWER, SDO_REQUEST, SYNC, Frame, WaitingFrames, boot_up_message, is_boot_up, nmt_message
+
+NOT_BOOTED, CONFIGURED, FAILED = "not booted", "configured", "failed"
+
+
+@dataclass(frozen=True)
+class Boot:
+    """An open boot. number: of the comparison, from 0, or where nothing more is compared, of the write. expected: the numbers
+    of the comparisons from this one on."""
+    compares: bool
+    number: int
+    expected: Tuple[int, ...]
+    transfer: Optional[sdo.ClientTransfer] = None
+    deadline: Optional[int] = None
+
+
+class Manager:
+    """image has what is expected of each node, and its writes. asks(part, ..) is called where one of these is read."""
+
+    def __init__(self, image, asks):
+        self.roster, self.image, self.asks = image.roster, image, asks
+        self.heartbeat_us = 1000 * self.roster.heartbeat_ms
+        self.waiting = WaitingFrames()
+        self.stages = {node: NOT_BOOTED for node in self.roster.booted()}      # or a Boot, CONFIGURED, FAILED
+        self.has_started_network = False
+        self.notes = []                                # of this instant, with their nodes
+        if self.roster.controller() is None:
+            self.waiting.add(("boot-up",), boot_up_message(self.roster.manager))
+
+    # -------------------------------------------------------- boot of a node
+
+    def take(self, frame, now):
+        """A frame of another node."""
+        node = frame.id - ERROR_CONTROL
+        if is_boot_up(frame) and node in self.stages:
+            self.boot(node, now)
+        if is_boot_up(frame) and node == self.roster.controller() and self.has_started_network:
+            self.command(START, node)
+        node = frame.id - SDO_ANSWER
+        if isinstance(self.stages.get(node), Boot) and len(frame.data) == 8:
+            self.take_answer(node, frame.data, now)
+
+    def boot(self, node, now):
+        if self.stages[node] == CONFIGURED:
+            self.notes.append((node, b"lost"))
+        self.drop_requests(node)
+        self.asks("Expect", node)
+        self.compare(node, Boot(True, 0, tuple(self.image.identities[node])), now)
+
+    def drop_requests(self, node):
+        self.waiting.drop(lambda purpose: purpose == ("sdo", node))
+
+    def send_sdo(self, node, frame):
+        self.waiting.add(("sdo", node), Frame(SDO_REQUEST + node, frame))
+
+    def request(self, node, boot, progress, now):
+        """Sends the next frame of a transfer."""
+        self.send_sdo(node, progress.frame)
+        self.stages[node] = replace(boot, transfer=progress.transfer, deadline=now + 1000 * self.roster.timeout_ms)
+
+    def compare(self, node, boot, now):
+        """The first comparison from this one on of which a number is expected; none is left: the writes."""
+        while boot.expected and boot.expected[0] == 0:
+            boot = replace(boot, number=boot.number + 1, expected=boot.expected[1:])
+        if boot.expected:
+            self.request(node, boot, sdo.upload_start(IDENTITY[boot.number]), now)
+        else:
+            self.write(node, Boot(False, 0, ()), now)
+
+    def write(self, node, boot, now):
+        self.asks("Boot", node, boot.number)
+        write = self.image.write_of_node(node, boot.number)
+        if write is None:
+            self.end_configured(node)
+        else:
+            self.request(node, boot, sdo.download_start(write.place, write.data), now)
+
+    def take_answer(self, node, answer, now):
+        boot = self.stages[node]
+        progress = sdo.after_answer(boot.transfer, answer)
+        if progress.failure is not None:
+            self.end_failed(node, progress, b"%08X" % progress.failure)
+        elif progress.transfer is not None:
+            self.request(node, boot, progress, now)
+        elif not boot.compares:
+            self.write(node, replace(boot, number=boot.number + 1), now)
+        elif len(progress.read) > 4 or int.from_bytes(progress.read, "little") != boot.expected[0]:
+            self.end_failed(node, progress, b"difference")
+        else:
+            self.compare(node, replace(boot, number=boot.number + 1, expected=boot.expected[1:]), now)
+
+    def end_failed(self, node, progress, reason):
+        if progress.frame is not None:
+            self.send_sdo(node, progress.frame)
+        self.stages[node] = FAILED
+        self.notes.append((node, b"failed " + reason))
+
+    # ----------------------------------------------------------------- start
+
+    def end_configured(self, node):
+        self.stages[node] = CONFIGURED
+        self.notes.append((node, b"configured"))
+        if self.roster.version == 1 or self.has_started_network:
+            self.command(START, node)
+        elif all(self.stages[each] == CONFIGURED for each in self.roster.mandatory):
+            self.has_started_network = True
+            self.start_network()
+
+    def start_network(self):
+        if self.roster.version == 2:
+            self.command(START, 0)
+            return
+        for node in self.roster.nodes:
+            if node == self.roster.controller() or self.stages[node] == CONFIGURED:
+                self.command(START, node)
+
+    def command(self, service, node):
+        self.waiting.add(("nmt",), nmt_message(service, node))
+
+    # ---------------------------------------------------------------- timers
+
+    def run_timers(self, now):
+        """The time-outs by node, the heartbeat, SYNC."""
+        for node, stage in self.stages.items():
+            if isinstance(stage, Boot) and stage.deadline == now:
+                self.drop_requests(node)
+                self.end_failed(node, sdo.client_abort(stage.transfer, sdo.TIMED_OUT), b"timeout")
+        if self.is_due(self.heartbeat_us, now):
+            self.waiting.replace(("heartbeat",), Frame(ERROR_CONTROL + self.roster.manager, b"\x05"))
+        if self.is_due(self.roster.sync_us, now):
+            self.waiting.replace(("sync",), Frame(SYNC, self.sync_data(now)))
+
+    def is_due(self, period, now):
+        """At the whole multiples of the period above 0; a period of 0 is none."""
+        return period > 0 and now > 0 and now % period == 0
+
+    def sync_data(self, now):
+        """The counter, where SYNC has one: it goes by the moment alone."""
+        counter = self.roster.sync_counter
+        return bytes([(now // self.roster.sync_us - 1) % counter + 1]) if counter else b""
+
+    def moments(self, now):
+        """The due moments after now."""
+        deadlines = [stage.deadline for stage in self.stages.values() if isinstance(stage, Boot)]
+        return deadlines + [(now // period + 1) * period for period in (self.heartbeat_us, self.roster.sync_us) if period]

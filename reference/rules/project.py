@@ -1,0 +1,230 @@
+"""The project: what edits do to it, and how it is printed: docs/rules/commands.md.
+
+Version 3 has `receive MESSAGE ID RPDO MS` and `unreceive MESSAGE ID`: the node takes the message by that RPDO (0: the one that
+the plan gives) and expects it within so many milliseconds (0: the entry stays as it is). A node may have the manager's number."""
+from dataclasses import dataclass, field
+from typing import Dict, List, Optional, Tuple
+
+from .entries import DataSheet
+from .faults import IN_USE, LIMIT, RANGE, TAKEN, UNKNOWN, refuse_unless
+from .write_check import Place
+
+MOST_TEXTS, MOST_PARAMETERS, MOST_MESSAGES = 64, 4_096, 1_024
+
+
+@dataclass
+class Node:
+    name: bytes
+    eds: bytes
+    is_mandatory: bool = False
+
+
+@dataclass
+class Message:
+    node: int
+    tpdo: int
+    type: int
+    inhibit: int
+    event: int
+    cob_id: int
+    start: int = 0
+
+
+@dataclass(frozen=True)
+class Event:
+    time: int
+    kind: str                  # set, power or nmt
+    node: int                  # 0 for an NMT command to all
+    place: Optional[Place] = None
+    text: bytes = b""
+    is_on: bool = False
+    service: int = 0
+
+    def words(self):
+        if self.kind == "set":
+            return b"%d set %d %04X %02X %s" % (self.time, self.node, *self.place, self.text)
+        if self.kind == "power":
+            return b"%d power %d %s" % (self.time, self.node, b"on" if self.is_on else b"off")
+        return b"%d nmt %d %d" % (self.time, self.service, self.node)
+
+
+@dataclass
+class Project:
+    version: int = 1
+    bit_rate: int = 1000
+    horizon: int = 1_000_000
+    manager: Tuple[int, int, int, int] = (127, 0, 0, 500)        # number, SYNC in us, heartbeat and time-out in ms
+    sync_counter: int = 0
+    texts: Dict[bytes, List[bytes]] = field(default_factory=dict)               # the lines of each EDS
+    sheets: Dict[bytes, DataSheet] = field(default_factory=dict)                # what they describe in this version
+    nodes: Dict[int, Node] = field(default_factory=dict)
+    parameters: Dict[Tuple[int, int, int], bytes] = field(default_factory=dict)     # by node, index and sub-index
+    messages: Dict[bytes, Message] = field(default_factory=dict)
+    sources: Dict[Tuple[bytes, int], Place] = field(default_factory=dict)           # by message and position
+    sinks: Dict[Tuple[bytes, int, int], Place] = field(default_factory=dict)        # by message, position and node
+    receives: Dict[Tuple[bytes, int], Tuple[int, int]] = field(default_factory=dict)    # RPDO and ms, by message and node
+    events: Dict[int, Event] = field(default_factory=dict)
+
+    def sheet(self, node):
+        return self.sheets[self.nodes[node].eds]
+
+    def controller(self):
+        """The node that the manager runs in, or None."""
+        return self.manager[0] if self.manager[0] in self.nodes else None
+
+    def sources_of(self, message):
+        return sorted((position, place) for (name, position), place in self.sources.items() if name == message)
+
+    def sinks_of(self, message):
+        return {(position, node): place for (name, position, node), place in self.sinks.items() if name == message}
+
+    def receives_of(self, message):
+        return {node: numbers for (name, node), numbers in self.receives.items() if name == message}
+
+    def events_in_order(self):
+        """By time, and then by number."""
+        return sorted(self.events.items(), key=lambda item: (item[1].time, item[0]))
+
+    # ----------------------------------------------------------------- edits
+    # Each judges first and changes then: what is refused changes nothing.
+
+    def accept(self, word, arguments):
+        """The edit of that first word; its refusal is that of the first of Range, Unknown, Taken, InUse and Limit that holds."""
+        getattr(self, "edit_" + word.decode().replace("-", "_"))(*arguments)
+
+    def edit_version(self, version):
+        refuse_unless(version > 1 or not any(node.is_mandatory for node in self.nodes.values()), IN_USE)
+        refuse_unless(version > 2 or not self.receives and self.controller() is None, IN_USE)
+        self.version = version
+        self.sheets = {name: sheet.in_version(version) for name, sheet in self.sheets.items()}
+
+    def edit_bitrate(self, rate):
+        self.bit_rate = rate
+
+    def edit_horizon(self, time):
+        self.horizon = time
+
+    def edit_manager(self, *numbers):
+        refuse_unless(self.version >= 3 or numbers[0] not in self.nodes, TAKEN)
+        self.manager = numbers
+
+    def edit_sync_counter(self, counter):
+        self.sync_counter = counter
+
+    def edit_eds(self, name, lines, sheet):
+        refuse_unless(name in self.texts or len(self.texts) < MOST_TEXTS, LIMIT)
+        self.texts[name], self.sheets[name] = lines, sheet.in_version(self.version)
+
+    def edit_drop_eds(self, name):
+        refuse_unless(name in self.texts, UNKNOWN)
+        refuse_unless(all(node.eds != name for node in self.nodes.values()), IN_USE)
+        del self.texts[name], self.sheets[name]
+
+    def edit_node(self, number, name, eds):
+        refuse_unless(eds in self.texts, UNKNOWN)
+        refuse_unless(self.version >= 3 or number != self.manager[0], TAKEN)
+        refuse_unless(all(node.name != name for other, node in self.nodes.items() if other != number), TAKEN)
+        self.nodes[number] = Node(name, eds, number in self.nodes and self.nodes[number].is_mandatory)
+
+    def edit_need(self, number, is_mandatory):
+        refuse_unless(self.version >= 2, RANGE)
+        refuse_unless(number in self.nodes, UNKNOWN)
+        self.nodes[number].is_mandatory = is_mandatory
+
+    def edit_drop_node(self, number):
+        refuse_unless(number in self.nodes, UNKNOWN)
+        users = [message.node for message in self.messages.values()] + [event.node for event in self.events.values()]
+        users += [key[-1] for key in (*self.sinks, *self.receives)]
+        refuse_unless(number not in users, IN_USE)
+        del self.nodes[number]
+        self.parameters = {key: text for key, text in self.parameters.items() if key[0] != number}
+
+    def edit_param(self, number, index, sub, text):
+        refuse_unless(number in self.nodes, UNKNOWN)
+        key = number, index, sub
+        refuse_unless(key in self.parameters or sum(each[0] == number for each in self.parameters) < MOST_PARAMETERS, LIMIT)
+        self.parameters[key] = text
+
+    def edit_unparam(self, *key):
+        refuse_unless(key in self.parameters, UNKNOWN)
+        del self.parameters[key]
+
+    def edit_message(self, name, node, *numbers):
+        refuse_unless(node in self.nodes, UNKNOWN)
+        refuse_unless(name in self.messages or len(self.messages) < MOST_MESSAGES, LIMIT)
+        start = self.messages[name].start if name in self.messages else 0
+        self.messages[name] = Message(node, *numbers, start)
+
+    def edit_start(self, name, start):
+        refuse_unless(name in self.messages, UNKNOWN)
+        self.messages[name].start = start
+
+    def edit_drop_message(self, name):
+        refuse_unless(name in self.messages, UNKNOWN)
+        del self.messages[name]
+        self.sources = without_message(self.sources, name)
+        self.sinks = without_message(self.sinks, name)
+        self.receives = without_message(self.receives, name)
+
+    def edit_source(self, name, position, *place):
+        refuse_unless(name in self.messages, UNKNOWN)
+        self.sources[name, position] = place
+
+    def edit_unsource(self, *key):
+        refuse_unless(key in self.sources, UNKNOWN)
+        del self.sources[key]
+
+    def edit_sink(self, name, position, node, *place):
+        refuse_unless(name in self.messages and node in self.nodes, UNKNOWN)
+        self.sinks[name, position, node] = place
+
+    def edit_unsink(self, *key):
+        refuse_unless(key in self.sinks, UNKNOWN)
+        del self.sinks[key]
+
+    def edit_receive(self, name, node, *numbers):
+        refuse_unless(self.version >= 3, RANGE)
+        refuse_unless(name in self.messages and node in self.nodes, UNKNOWN)
+        self.receives[name, node] = numbers
+
+    def edit_unreceive(self, *key):
+        refuse_unless(self.version >= 3, RANGE)
+        refuse_unless(key in self.receives, UNKNOWN)
+        del self.receives[key]
+
+    def edit_event(self, k, event):
+        refuse_unless(event.node in self.nodes or event.kind == "nmt" and event.node == 0, UNKNOWN)
+        self.events[k] = event
+
+    def edit_drop_event(self, k):
+        refuse_unless(k in self.events, UNKNOWN)
+        del self.events[k]
+
+    # ---------------------------------------------------------------- script
+
+    def script(self):
+        """The lines of `project`."""
+        lines = [b"version %d" % self.version] if self.version > 1 else []
+        lines += [b"bitrate %d" % self.bit_rate, b"horizon %d" % self.horizon, b"manager %d %d %d %d" % self.manager]
+        lines += [b"sync-counter %d" % self.sync_counter] if self.sync_counter else []
+        for name, text in sorted(self.texts.items()):
+            lines += [b"eds %s %d" % (name, len(text)), *text]
+        for number, node in sorted(self.nodes.items()):
+            lines.append(b"node %d %s %s" % (number, node.name, node.eds))
+            lines += [b"need %d mandatory" % number] if node.is_mandatory else []
+        lines += [b"param %d %04X %02X %s" % (*key, text) for key, text in sorted(self.parameters.items())]
+        for name, message in sorted(self.messages.items()):
+            lines += self.message_lines(name, message)
+        return lines + [b"event %d %s" % (k, event.words()) for k, event in sorted(self.events.items())]
+
+    def message_lines(self, name, message):
+        numbers = message.node, message.tpdo, message.type, message.inhibit, message.event, message.cob_id
+        lines = [b"message %s %d %d %d %d %d %03X" % (name, *numbers)]
+        lines += [b"start %s %d" % (name, message.start)] if message.start else []
+        lines += [b"source %s %d %04X %02X" % (name, position, *place) for position, place in self.sources_of(name)]
+        lines += [b"sink %s %d %d %04X %02X" % (name, *key, *place) for key, place in sorted(self.sinks_of(name).items())]
+        return lines + [b"receive %s %d %d %d" % (name, node, *rest) for node, rest in sorted(self.receives_of(name).items())]
+
+
+def without_message(table, name):
+    return {key: value for key, value in table.items() if key[0] != name}

@@ -1,0 +1,83 @@
+"""A session: the commands of an input and the replies to them: docs/rules/commands.md."""
+from . import concise_dcf
+from .bus import trace_of
+from .commands import NEWEST_VERSION, QUERIES, block_lines, command_of, eds_command, words_of
+from .dcf_text import dcf_text
+from .diagnostics import diagnostics_of
+from .faults import NAMES, SYNTAX, UNKNOWN, Refused, refuse_unless
+from .ini_text import LONGEST_LINE
+from .messages import plan_of
+from .project import Project
+from .writes import node_writes
+
+LONGEST_INPUT = 67_108_864
+
+
+class TooLong(Exception):
+    """The input has over 64 MiB."""
+
+
+class Session:
+    """A project, and the replies to commands on it. newest: of the versions of scripts that are known. work, if any, counts what
+    was made anew for the answers."""
+
+    def __init__(self, newest=NEWEST_VERSION, work=None):
+        self.project, self.newest, self.work = Project(), newest, work
+
+    def reply(self, line, block, is_cut):
+        """block: the lines that an `eds` line takes, else None; is_cut: the input ended inside them."""
+        try:
+            refuse_unless(words_of(line), SYNTAX)
+            command = command_of(line, self.newest) if block is None else eds_command(line, block, is_cut)
+            if command.word not in QUERIES:
+                self.project.accept(command.word, command.arguments)
+                return b"ok\n"
+            lines = answer(self.project, command)
+        except Refused as refused:
+            return b"refused %d %s\n" % (refused.number, NAMES[refused.number])
+        if self.work is not None:
+            self.work.reach(self.project, command, lines)
+        return b"lines %d\n" % len(lines) + b"".join(each + b"\n" for each in lines)
+
+    def replies_to(self, data):
+        """The reply to each command of an input, of which one byte more than 64 MiB is enough."""
+        is_too_long = len(data) > LONGEST_INPUT
+        lines, place = complete_lines(data[:LONGEST_INPUT], is_too_long), 0
+        while place < len(lines):
+            line, size = lines[place], block_lines(lines[place])
+            block = None if size is None else lines[place + 1:place + 1 + size]
+            is_cut = block is not None and len(block) < size
+            if is_cut and is_too_long:
+                break
+            if line.strip(b" \t") or len(line) > LONGEST_LINE:
+                yield self.reply(line, block, is_cut)
+            place += 1 + (size or 0)
+        if is_too_long:
+            raise TooLong
+
+
+def complete_lines(data, goes_on):
+    """The lines of an input without the CRs at their ends; the last one, where it isn't ended by LF, only if no more comes."""
+    lines = data.split(b"\n")
+    return [line.rstrip(b"\r") for line in (lines[:-1] if goes_on or not lines[-1] else lines)]
+
+
+def replies_to(data, newest=NEWEST_VERSION, work=None):
+    return Session(newest, work).replies_to(data)
+
+
+def answer(project, query):
+    """The lines of a query."""
+    if query.word == b"project":
+        return project.script()
+    if query.word == b"diag":
+        return diagnostics_of(project)
+    if query.word == b"trace":
+        return trace_of(project)
+    node, = query.arguments
+    refuse_unless(node in project.nodes, UNKNOWN)
+    writes = node_writes(project, plan_of(project), node)
+    if query.word == b"cdcf":
+        data = concise_dcf.text_of(writes)
+        return [data[k:k + 16].hex(" ").upper().encode() for k in range(0, len(data), 16)]
+    return dcf_text(project.sheet(node), node, project.nodes[node].name, project.bit_rate, writes).split(b"\n")[:-1]

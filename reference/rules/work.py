@@ -1,0 +1,233 @@
+"""What is made anew for the answers of a session, at most: docs/costs.md, docs/architecture.md.
+
+Nothing is kept here that an answer is taken from: each is made from scratch, and beside it stands what a program that keeps its
+answers would hold, and how much of it would have to be made anew.
+
+- Parts are what answers are made from: a part is made anew where it isn't held, or what it is made from has another value.
+- A segment is one window of a run: it is made anew where none is held that starts from the same state of the network and of
+  which everything that it read is unchanged. A held one that serves has to be what is run now, else the count stops.
+
+Where more or less could be held, what counts fewer is taken: parts are let go at the next query, not at the edit; the plan says
+of a message with faults nothing but these, and of a clean one what its writes need; events of a window have no numbers; a device
+without power has no state; the store is cut to its capacity at the end of a trace."""
+from dataclasses import astuple, dataclass
+from typing import Dict, List, Optional
+
+from .bus import WINDOW, Bus, Image, Roster, controller_shape
+from .messages import plan_of
+from .values import OF_VERSION_3, UNSIGNED8, UNSIGNED16, UNSIGNED32
+from .write_check import is_tpdo_object
+from .writes import node_writes
+
+WINDOWS = 1_001                # of a run to the longest horizon
+CAPACITY = 2_048
+PARTS_OF_NODES = ("Defaults", "Shape", "Expect", "Writes", "DCF", "Concise")
+
+
+class Work:
+    """How many segments and parts were made anew since the start."""
+
+    def __init__(self, capacity=CAPACITY):
+        self.parts, self.store = Parts(), Store(capacity)
+
+    def line(self):
+        return b"work %d %d\n" % (self.store.made, self.parts.made)
+
+    def reach(self, project, query, lines):
+        """A query that was answered by these lines."""
+        if query.word != b"project":
+            self.parts.reach(project, query)
+        if query.word == b"trace":
+            self.store.trace(project, lines)
+
+
+# --------------------------------------------------------------------- parts
+
+class Parts:
+    """held: of each part, by name, what it was made from, and its value where others are made from it."""
+
+    def __init__(self):
+        self.held, self.made = {}, 0
+
+    def bring(self, name, inputs, make=lambda: None):
+        """The value of a part."""
+        if name not in self.held or self.held[name][0] != inputs:
+            self.made += 1
+            self.held[name] = inputs, make()
+        return self.held[name][1]
+
+    def reach(self, project, query):
+        self.project, self.plan = project, plan_of(project)
+        self.let_go()
+        plan = self.bring_plan()
+        if query.word == b"diag":
+            self.bring(("Diagnostics",), (project.script(), plan))
+        elif query.word == b"trace":
+            self.bring_image(plan)
+        else:
+            node, = query.arguments
+            writes = self.bring_writes(node, plan)
+            others = (self.bring_device(node), self.project.nodes[node].name, self.project.bit_rate) if query.word == b"dcf" else ()
+            self.bring(("DCF" if others else "Concise", node), (writes, *others))
+
+    def let_go(self):
+        """The parts whose text or node is gone."""
+        gone = [name for name in self.held if name[0] == "Device" and name[1] not in self.project.texts
+                or name[0] in PARTS_OF_NODES and name[1] not in self.project.nodes]
+        for name in gone:
+            del self.held[name]
+
+    def bring_device(self, node):
+        """That of the node's text: its sections, its warned lines, and which entries have types of version 3."""
+        name, version_3 = self.project.nodes[node].eds, self.project.version >= 3
+        return self.bring(("Device", name), (self.project.texts[name], version_3), lambda: device_value(self.project.sheets[name]))
+
+    def bring_plan(self):
+        project = self.project
+        messages = [(name, astuple(message)) for name, message in sorted(project.messages.items())]
+        devices = [(node, self.bring_device(node)) for node in sorted(project.nodes)]
+        inputs = (messages, dict(project.sources), dict(project.sinks), dict(project.receives), project.version >= 3,
+                  project.controller(), devices)
+        return self.bring(("Plan",), inputs, lambda: list(map(planned_value, self.plan)))
+
+    def bring_writes(self, node, plan):
+        parameters = {key: text for key, text in self.project.parameters.items() if key[0] == node}
+        inputs = plan, parameters, self.bring_device(node), self.project.version >= 3
+        return self.bring(("Writes", node), inputs, lambda: node_writes(self.project, self.plan, node))
+
+    def bring_image(self, plan):
+        """All that a run can read; the writes of a node are counted as one part."""
+        project, shapes = self.project, {}
+        self.bring(("Roster",), Roster.of(project))
+        for node in sorted(project.nodes):
+            device, writes, is_controller = self.bring_device(node), self.bring_writes(node, plan), node == project.controller()
+            self.bring(("Expect", node), device)
+            self.bring(("Defaults", node), (device, is_controller, writes if is_controller else None))
+            shapes[node] = self.bring(("Shape", node), (device, is_controller), lambda: shape_of(project, node))
+        windows = {}
+        for _, event in project.events_in_order():
+            windows.setdefault(event.time // WINDOW, []).append(event)
+        for number in range(WINDOWS):
+            events = windows.get(number, [])
+            self.bring(("Events", number), (events, {event.node: shapes[event.node] for event in events if event.kind == "set"}))
+
+
+def shape_of(project, node):
+    shape = project.sheet(node).shape(node)
+    return controller_shape(shape) if node == project.controller() else shape
+
+
+def device_value(sheet):
+    sections = [(section.name, list(section.pairs.values())) for section in sheet.content.sections.values()]
+    return sections, sheet.content.warnings, {place: kind for place, kind in sheet.types.items() if kind in OF_VERSION_3}
+
+
+def planned_value(planned):
+    if not planned.is_clean():
+        return planned.name, planned.faults
+    message = planned.message
+    numbers = message.node, message.tpdo, message.type, message.inhibit, message.event, message.start, planned.identifier
+    times = {node: planned.milliseconds(node) for node in planned.consumers()}
+    return planned.name, numbers, planned.mapping, dict(planned.rpdos), dict(planned.mappings), times
+
+
+# ------------------------------------------------------------------ segments
+
+def learnt(device):
+    """Which entries are there with the type that a rule asks for: learnt at power-on and at a reset."""
+    has = device.shape.has_type
+    pdos = [(pdo, has(pdo, 2, UNSIGNED8)) + ((has(pdo, 3, UNSIGNED16), has(pdo, 5, UNSIGNED16), has(pdo, 6, UNSIGNED8))
+                                             if is_tpdo_object(pdo) else ()) for pdo in device.working]
+    return (has(0x1001, 0, UNSIGNED8), has(0x1005, 0, UNSIGNED32), has(0x1017, 0, UNSIGNED16), has(0x1019, 0, UNSIGNED8),
+            device.consumer_subs, pdos)
+
+
+def device_state(device):
+    if not device.has_power:
+        return None
+    return (device.state, dict(device.values), learnt(device), list(device.waiting.frames), device.transfer, device.heartbeat,
+            {sub: (consumer.moment, consumer.has_failed) for sub, consumer in device.consumers.items()},
+            {pdo: (tpdo.last, tpdo.inhibit, tpdo.event, tpdo.counted, tpdo.has_started) for pdo, tpdo in device.tpdos.items()},
+            dict(device.kept_frames), dict(device.working))
+
+
+def bus_state(bus):
+    """The state of the network between two windows: no event is left of the one before, and none is read of the next."""
+    manager = bus.manager
+    return (bus.roster, bus.slot, dict(manager.stages), manager.has_started_network, list(manager.waiting.frames),
+            {node: device_state(device) for node, device in bus.devices.items()})
+
+
+class ImageParts:
+    """What each part of an image has as its value now; None where it is absent."""
+
+    def __init__(self, project):
+        self.image = Image(project)
+        self.windows = {}                              # the steps of each that has some
+        for step in self.image.steps:
+            self.windows.setdefault(step.time // WINDOW, []).append(step)
+
+    def value(self, part, *key):
+        if part == "Roster":
+            return self.image.roster
+        if part == "Boot":
+            return self.image.write_of_node(*key) if key[0] in self.image.writes else None
+        tables = {"Defaults": self.image.defaults, "Shape": self.image.shapes, "Expect": self.image.identities, "Events": self.windows}
+        return tables[part].get(*key)
+
+
+@dataclass
+class Segment:
+    """A window of a run: the state that it starts from (None before power-on), what each part had that it read, its lines with
+    their times, and the state that it ends in."""
+    number: int
+    start: Optional[tuple]
+    reads: Dict
+    lines: List
+    end: tuple
+
+    def serves(self, start, parts):
+        return self.start == start and all(parts.value(*part) == value for part, value in self.reads.items())
+
+
+def segments_of(parts, last):
+    """The windows 0 to last of the run, each from the state that the one before ends in."""
+    reads = {}
+
+    def asks(*part):
+        reads.setdefault(part, parts.value(*part))
+
+    start, bus = None, Bus(parts.image, asks)
+    for number in range(last + 1):
+        asks("Events", number)
+        lines, now = [], WINDOW * number               # the start of a window is due
+        while now is not None and now < WINDOW * (number + 1):
+            lines += [(now, line) for line in bus.instant(now)]
+            now = bus.next_due(now)
+        segment = Segment(number, start, dict(reads), lines, bus_state(bus))
+        yield segment
+        start = segment.end
+        reads.clear()
+
+
+class Store:
+    """held: the segments, the last run or used first."""
+
+    def __init__(self, capacity):
+        self.capacity, self.held, self.made = capacity, [], 0
+
+    def trace(self, project, answer):
+        """The state in which a window begins is the same whether those before it were run or used: so each is run here."""
+        parts, reached = ImageParts(project), []
+        for run in segments_of(parts, project.horizon // WINDOW):
+            used = next((held for held in self.held if held.number == run.number and held.serves(run.start, parts)), None)
+            if used is None:
+                self.made += 1
+            elif (used.reads, used.lines, used.end) != (run.reads, run.lines, run.end):
+                raise AssertionError(f"the segment {run.number} that is held isn't what is run now")
+            reached.insert(0, used or run)
+        lines = [line for segment in reversed(reached) for now, line in segment.lines if now <= project.horizon]
+        if lines != answer:
+            raise AssertionError("the segments don't give the answer")
+        others = [held for held in self.held if not any(held is each for each in reached)]
+        self.held = (reached + others)[:self.capacity]
