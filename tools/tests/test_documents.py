@@ -12,7 +12,7 @@ from cobench_tools import concise
 from cobench_tools.commands.live import PORT
 from cobench_tools.main import COMMANDS
 
-FOLDERS = "", "docs", "docs/rules", "examples", "tools", "bench"
+FOLDERS = "", "docs", "docs/rules", "examples", "reference", "tools", "bench"
 PAGES = [os.path.join(folder, name) for folder in FOLDERS for name in os.listdir(os.path.join(ROOT, folder))
          if name.endswith(".md")]
 
