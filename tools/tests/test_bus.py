@@ -95,7 +95,8 @@ def test_what_a_device_refuses_or_does_wrong_is_told():
     abort = "node 5: 2005h:00 Entry 2005: "
     cases = [(1, bus_device.aborted(0x06090011), "abort 06090011 no such sub-index"), (1, bus_device.lost_request, "no answer in 300 ms"),
              (3, bus_device.lost_answer, "no answer in 300 ms"), (1, bus_device.reset, "its boot-up message came in the middle"),
-             (2, bus_device.segment_of_nothing, "abort 05040001 command not valid by this program: its segment has no byte, and isn't the last one"),
+             (2, bus_device.segment_of_nothing, "abort 05040001 command not valid by this program: its segment has no byte, and isn't "
+              "the last one"),
              (2, bus_device.wrong_toggle, "abort 05030000 toggle bit not alternated by this program: its segment has the wrong toggle bit"),
              (2, bus_device.twice, "an answer came that nothing asked for")]
     for number, fault, says in cases:

@@ -219,8 +219,8 @@ def test_where_the_adapter_fails_it_is_told_what_is_written():
     with bus_clock.used(Unplugged(made, 250)):
         status, output, faults = here("bus", "download", *QUICK, "--interface", "virtual", "--cobench", recorded(), path)
     assert status == 2 and faults == "cobtool: the adapter takes no frame: unplugged\n", faults
-    assert output.startswith("node 5 pump: 2 of 9 writes are confirmed, the last one 2001h:00 Speed := 300 (12Ch); whether 2002h:00 Command := 7 "
-                             "is written isn't known; the node isn't started\nnode 6 fan: nothing is written\n"), output
+    assert output.startswith("node 5 pump: 2 of 9 writes are confirmed, the last one 2001h:00 Speed := 300 (12Ch); whether 2002h:00 "
+                             "Command := 7 is written isn't known; the node isn't started\nnode 6 fan: nothing is written\n"), output
     assert not made[0].starts and made[0].entries[0x2001, 0].data == b"\x2C\1"
 
 
@@ -396,7 +396,7 @@ def download_and_verify(number, program):
 
 
 def test_what_rpdos_have_changed_is_counted_alone():
-    """The network of number 6 has an entry that its script sets and that a message writes; where nothing runs, it has to be as it was set."""
+    """The network of number 6 has an entry that its script sets and that a message writes; before the start it has to be as it was set."""
     machine = Machine(6, recorded())
     assert machine.run("download", "--yes", "--force", "--listen", "0", "--no-start")[0] == 0
     assert machine.run("verify")[:2] == (0, "no errors; 6 nodes, 92 values compared, 3 that can only be written not among them\n")

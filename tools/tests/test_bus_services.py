@@ -135,6 +135,9 @@ def test_several_devices_are_never_set_together():
     assert status == 2 and one.lss.number == 255 and "--yes sends it without asking" in faults and not one.lss.is_open
     status, _, faults, _ = on_bus([one], "lss", *SHORT, "--yes", "--set-bitrate", 800)
     assert (status, faults) == (1, "cobtool: it hasn't this bit rate\n")
+    status, output, faults, _ = on_bus([one], "lss", *SHORT, "--yes", "--set-node", 6, "--set-bitrate", 800, "--store")
+    assert (status, faults) == (1, "cobtool: it hasn't this bit rate\n") and output.endswith("\ndone: give it the number 6\n"), output
+    assert one.lss.number == 6 and not one.lss.is_stored
     status, _, faults, rack = on_bus([one], "lss", *SHORT, "--yes", "--cobench", recorded(), "--script", script(), "--set-node", 9)
     assert (status, rack.frames) == (2, []) and "net.txt has no node 9" in faults
 

@@ -219,7 +219,8 @@ def test_a_node_that_may_not_be_configured_may_have_the_heartbeat_of_its_data_sh
         return sum(codes, [])
     write = ["(1.500000) can0 605#2B17100028000000\n", "(1.500300) can0 585#6017100000000000\n"]
     for default, period, code in ((90, 90_000, "heartbeat-late"), (20, 20_000, "two-devices")):
-        put("net.txt", NETWORK.replace(b"eds unit 24\n", b"eds unit 25\n").replace(b"[1017]\nDataType=6\n", b"[1017]\nDataType=6\nDefaultValue=%d\n" % default))
+        sheet = NETWORK.replace(b"eds unit 24\n", b"eds unit 25\n")
+        put("net.txt", sheet.replace(b"[1017]\nDataType=6\n", b"[1017]\nDataType=6\nDefaultValue=%d\n" % default))
         assert of_pump(*beats("7F", period, 0, 5)) == [] == of_pump(*beats("7F", 40_000, 0, 9))
         assert of_pump(*beats("7F", period, 0, 5), *write, *beats("7F", 40_000, 540_300, 5)) == []
         assert of_pump(*beats("7F", period, 0, 5), *write, *beats("7F", period, 500_300 + period, 5)) == [code]

@@ -1,6 +1,6 @@
 """Gives a device its number and its bit rate by LSS."""
 import argparse
-from typing import List, Optional, Tuple
+from typing import Callable, Dict, List, Optional, Tuple
 
 from ... import session, tool, within
 from ...device import read_number
@@ -63,11 +63,16 @@ def planned_faults(options: argparse.Namespace) -> Tuple[List[str], Optional[int
     return faults, project.bitrate, project.manager[0]
 
 
-def wishes_of(options: argparse.Namespace) -> List[str]:
-    """What is to be set, in words."""
-    wishes = [f"give it the number {options.set_node}"] if options.set_node is not None else []
-    wishes += [f"give it {options.set_bitrate} kbit/s"] if options.set_bitrate is not None else []
-    return wishes + (["have it store this"] if options.store else [])
+def wishes_of(options: argparse.Namespace, master: lss.Master) -> Dict[str, Callable[[], None]]:
+    """What is to be set, in words, and what does it."""
+    wishes: Dict[str, Callable[[], None]] = {}
+    if options.set_node is not None:
+        wishes[f"give it the number {options.set_node}"] = lambda: master.set_node(options.set_node)
+    if options.set_bitrate is not None:
+        wishes[f"give it {options.set_bitrate} kbit/s"] = lambda: master.set_rate(options.set_bitrate)
+    if options.store:
+        wishes["have it store this"] = master.store
+    return wishes
 
 
 def about(master: lss.Master) -> str:
@@ -77,14 +82,16 @@ def about(master: lss.Master) -> str:
     return f"{numbers}; {'it has no number' if node is None else f'its number is {node}'}"
 
 
-def configure(master: lss.Master, options: argparse.Namespace) -> None:
-    """Sets what is wished."""
-    if options.set_node is not None:
-        master.set_node(options.set_node)
-    if options.set_bitrate is not None:
-        master.set_rate(options.set_bitrate)
-    if options.store:
-        master.store()
+def configure(wishes: Dict[str, Callable[[], None]]) -> None:
+    """Sets what is wished, and says what is set, also where something isn't."""
+    done: List[str] = []
+    try:
+        for words, fulfil in wishes.items():
+            fulfil()
+            done.append(words)
+    finally:
+        if done:
+            tool.put(f"done: {', '.join(done)}\n")
 
 
 def run(options: argparse.Namespace) -> int:
@@ -96,11 +103,10 @@ def run(options: argparse.Namespace) -> int:
         try:
             master.select(identity) if identity else master.select_all()
             tool.put(f"{about(master)}\n")
-            wishes = wishes_of(options)
+            wishes = wishes_of(options, master)
             if wishes:
                 asked.confirm(options, " and ".join(wishes))
-                configure(master, options)
-                tool.put(f"done: {', '.join(wishes)}\n")
+                configure(wishes)
         except Failed as why:
             tool.say(why.text)
             return tool.FOUND
