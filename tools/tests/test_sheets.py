@@ -159,7 +159,7 @@ def test_one_file_of_acceptances_serves_all_commands():
 def test_every_code_is_known_to_the_acceptances():
     """Those of the tables of tools/README.md, so that a rule of one command is no slip to another."""
     text = file(TOOLS, "README.md").decode()
-    part = text[text.index("### What `check` tells"):text.index("In place, without pip")]
+    part = text[text.index("### What `check` reports"):text.index("In place, without pip")]
     tables = re.findall(r"(?m)^\| Code[^|]*\|.*\n\|[-|]+\n((?:\|.*\n)+)", part)
     codes = {words.split(" ")[0] for table in tables for line in table.splitlines()
              for words in line.split("|")[1].replace("`", "").strip().split(", ")}
