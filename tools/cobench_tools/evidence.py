@@ -50,6 +50,10 @@ class Evidence:
             return pdo_values.lines_of(self._devices[eds])
         return pdo_values.lines_with_values(self.project.texts[eds])
 
+    def know(self, nodes):
+        """Takes nodes that are known already, by their numbers, so that none is made again."""
+        self._nodes.update(nodes)
+
     def node(self, node):
         """A node with the values that its entries have once it is configured."""
         if node not in self._nodes:

@@ -5,7 +5,7 @@ from .report import Report
 from .wiring import Wiring
 
 # What the help of such a command says of its words and its status.
-HELP = f"""Errors, as `cobtool check` finds them, are told on the standard error, and what is
+HELP = f"""Errors, as `cobtool check` finds them, are reported on the standard error, and what is
 printed is of the project that the accepted commands make.
 
 {acceptance.HELP}

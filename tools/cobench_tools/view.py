@@ -16,7 +16,7 @@ from .reader import Reader
 
 HELP = f"""Where SCRIPT stands alone, cobench is run on it, and the trace is that of the network
 at its end, or with --trace N at the Nth `trace` of it; errors, as `cobtool check` finds
-them, are told on the standard error. With --log LOG a recording is shown in the words
+them, are reported on the standard error. With --log LOG a recording is shown in the words
 of SCRIPT, in each form that `cobtool conform` reads; its times count from its first
 frame, and --from and --to take a part of it.
 
@@ -34,7 +34,8 @@ class Shown:
     plan     what is planned, where it is a recording
     """
 
-    def __init__(self, lines: List[trace.Line], project: Optional[Project], report: Optional[Report] = None, plan: Optional[Plan] = None) -> None:
+    def __init__(self, lines: List[trace.Line], project: Optional[Project], report: Optional[Report] = None,
+                 plan: Optional[Plan] = None) -> None:
         self.lines, self.project, self.report, self.plan = lines, project, report, plan
         self.status: int = report.status if report else tool.DONE
         self.bit = plan.bus_bit if plan else trace.bit_time(lines, project)

@@ -40,7 +40,8 @@ class Opened:
     def fail(self, data, words):
         """Saves the script with what it can't be, and waits until the page says so in these words."""
         put(self.scene.script, data)
-        self.page.wait(f"document.getElementById('status').className === 'fault' && document.getElementById('status').textContent.includes({words!r})")
+        status = "document.getElementById('status')"
+        self.page.wait(f"{status}.className === 'fault' && {status}.textContent.includes({words!r})")
         self.page.settle()
 
     def close(self):

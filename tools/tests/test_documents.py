@@ -74,7 +74,7 @@ def alarms_of(script):
 
 
 def test_a_day_edits_the_example():
-    """Each command of the page is run as it stands, but for `live`; each edit is one of a line of the example, and the slip is told as there."""
+    """Each command of the page is run as it stands, but for `live`; each edit is of a line of the example, with the slip as reported."""
     text, script = page("docs", "a_day_with_cobench.md"), file(EXAMPLES, "network.txt").decode()
     edits = re.findall(r"`([^`]+)` (?:becomes|has become) `([^`]+)`", text)
     assert len(edits) == 3 and all(script.count(old + "\n") == 1 for old, _ in edits), edits

@@ -57,8 +57,8 @@ def test_frames_that_have_gone_are_hollow_and_struck_through():
         page.settle()
         middle, edge = page.value(f"{UNDER}(1, {pdos[-1][0]})")
         assert is_fresh(edge) and not is_fresh(middle), (edge, middle)
-        told = page.value(f"(() => {{ const view = live.run.timeline, lane = view.lanes.shown[1];"
-                          f" return findAt(view, view.scale.x({pdos[-1][0]}), AXIS - view.scrolled() + lane.top + lane.height - 4).head; }})()")
+        told = page.value(f"(() => {{ const view = live.run.timeline, lane = view.lanes.shown[1], x = view.scale.x({pdos[-1][0]});"
+                          " return findAt(view, x, AXIS - view.scrolled() + lane.top + lane.height - 4).head; })()")
         assert told.endswith("PDO · pump · gone with the last save"), told
         page.value("live.run.view(1), live.run.frames.isNew.click()")
         page.settle()
@@ -78,7 +78,8 @@ def test_frames_that_have_only_moved_are_paler_than_new_ones():
         assert fresh == ["guard 1017h:00 := 0032h (Producer heartbeat time)", "guard 1017h:00 written (Producer heartbeat time)",
                          "guard heartbeat: operational"], fresh
         assert text(page, "#tab-run .badge") == "3 new", "what has only moved isn't counted beside what is new"
-        frame, lane = page.value("(() => { const { trace } = live.run.timeline, frame = [...trace.moved.keys()].pop(); return [frame, trace.sortOf(frame).lane]; })()")
+        frame, lane = page.value("(() => { const { trace } = live.run.timeline, frame = [...trace.moved.keys()].pop();"
+                                 " return [frame, trace.sortOf(frame).lane]; })()")
         at = page.value(f"live.run.timeline.trace.time[{frame}]")
         page.value(f"live.run.timeline.move({at - 2000}, {at + 2000})")
         page.settle()

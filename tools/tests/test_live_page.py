@@ -108,7 +108,8 @@ def test_what_is_not_simulated_yet_is_pale_and_of_the_save_before():
 def test_rows_of_the_save_before_are_told_apart():
     with halved() as live:
         page = live.page
-        rows = "[...document.querySelectorAll('.frames tbody tr')].map(row => [row.className, row.title, row.lastChild.lastChild.textContent])"
+        rows = """[...document.querySelectorAll('.frames tbody tr')].map(row =>
+            [row.className, row.title, row.lastChild.lastChild.textContent])"""
         page.value("live.run.view(1), live.run.frames.text.value = 'pump', live.run.frames.filter()")
         page.settle()
         page.value("live.run.frames.scroller.scrollTop = 98 * 24")
@@ -219,7 +220,8 @@ def test_an_empty_script_and_an_empty_run_are_shown():
         put(live.scene.script, b"")
         page.wait(f"live.items.get('ledger').length > {saves}")
         page.settle()
-        assert page.value("live.run.timeline.trace.lanes.map(lane => lane.name + (lane.gone ? ' gone' : ''))") == ["manager", "pump gone", "guard gone"]
+        lanes = page.value("live.run.timeline.trace.lanes.map(lane => lane.name + (lane.gone ? ' gone' : ''))")
+        assert lanes == ["manager", "pump gone", "guard gone"], lanes
         page.value("live.tabs.choose(1)")
         page.settle()
         assert "There are no nodes." in text(page, "#part-nodes")

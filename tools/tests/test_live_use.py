@@ -1,4 +1,4 @@
-"""The page of `live` as it is used: by keyboard, in windows of all sizes, by its address, with an editor, and while a save can't be read."""
+"""The page of `live` as it is used: by keyboard, in windows of all sizes, by its address, with an editor, with a broken save."""
 import os
 import re
 import time
@@ -14,8 +14,8 @@ FOCUSED = "(each => each.id || each.className || each.textContent)(document.acti
 
 def test_wrong_and_run_stand_together_at_960_by_1000():
     with opened(wide=960, high=1000) as live:
-        boxes = [live.page.value(f"(box => [box.top, box.bottom, box.width])(document.getElementById('part-{name}').getBoundingClientRect())")
-                 for name in ("wrong", "run")]
+        box = "(box => [box.top, box.bottom, box.width])(document.getElementById('part-{}').getBoundingClientRect())"
+        boxes = [live.page.value(box.format(name)) for name in ("wrong", "run")]
         assert 0 < boxes[0][1] - boxes[0][0] and boxes[0][1] <= boxes[1][0] and boxes[1][1] <= 1000 and boxes[1][2] == 960, boxes
         assert live.page.value("live.run.timeline.room()") > 250, "the lanes have room"
         live.save(b"set 5 6041 0 7", b"set 5 6041 0 9")
@@ -37,7 +37,8 @@ def test_what_cannot_be_read_dims_the_page_and_says_of_when_it_is():
         put("network.txt", whole.replace(b"set 5 6041 0 7", b"set 5 6041 0 9"))
         page.wait(f"live.items.get('ledger').length > {saves}")
         page.settle()
-        assert page.value("getComputedStyle(document.getElementById('parts')).opacity") == "1" and text(page, "#status").startswith("Up to date")
+        assert page.value("getComputedStyle(document.getElementById('parts')).opacity") == "1"
+        assert text(page, "#status").startswith("Up to date")
 
 
 def test_findings_are_accepted_as_by_check():
@@ -159,10 +160,12 @@ def test_all_of_it_goes_by_keyboard_in_windows_of_all_sizes_by_day_and_by_night(
 
 
 CONTRAST = """(selector => { const light = text => { const part = text.match(/[\\d.]+/g).slice(0, 3).map(each => each / 255)
-      .map(each => each <= .03928 ? each / 12.92 : ((each + .055) / 1.055) ** 2.4); return .2126 * part[0] + .7152 * part[1] + .0722 * part[2]; };
+      .map(each => each <= .03928 ? each / 12.92 : ((each + .055) / 1.055) ** 2.4);
+      return .2126 * part[0] + .7152 * part[1] + .0722 * part[2]; };
     const back = each => { for (; each; each = each.parentElement) { const found = getComputedStyle(each).backgroundColor;
       if (!/, 0\\)|transparent/.test(found)) return found; } return 'rgb(255, 255, 255)'; };
-    return [...document.querySelectorAll(selector)].map(each => { const two = [light(getComputedStyle(each).color), light(back(each))].sort((a, b) => b - a);
+    return [...document.querySelectorAll(selector)].map(each => {
+      const two = [light(getComputedStyle(each).color), light(back(each))].sort((a, b) => b - a);
       return (two[0] + .05) / (two[1] + .05); }); })"""
 
 
@@ -173,7 +176,8 @@ def test_what_is_marked_can_be_read_by_day_and_by_night():
         for dark in ("light", "dark"):
             live.page.ask("Emulation.setEmulatedMedia", features=[{"name": "prefers-color-scheme", "value": dark}])
             live.page.settle()
-            found = live.page.value(CONTRAST + "('.findings .text, .findings .place, .findings .tag, .summary, .badge:not([hidden]), .link')")
+            marked = ".findings .text, .findings .place, .findings .tag, .summary, .badge:not([hidden]), .link"
+            found = live.page.value(f"{CONTRAST}('{marked}')")
             assert len(found) > 6 and min(found) >= 4.5, (dark, found)
 
 
@@ -184,5 +188,6 @@ def test_the_saves_are_told_in_words_of_who_edits():
         page.value("document.getElementById('about').click()")
         assert page.value("document.querySelector('dialog').open")
         saves = texts(page, ".saves li")
-        assert len(saves) == 2 and re.search(r"network\.txt\s+2 of 6 parts of the run changed", saves[0]) and "simulating" in saves[0], saves
+        assert len(saves) == 2 and "simulating" in saves[0], saves
+        assert re.search(r"network\.txt\s+2 of 6 parts of the run changed", saves[0]), saves
         assert "what changed: 1 command" in saves[0] and "windows" not in " ".join(saves), saves

@@ -82,7 +82,8 @@ def printed(name, page):
 def test_the_network_prints_whole():
     copied()
     text, _ = printed("matrix", page_of("matrix", "--format", "html"))
-    for words in ("made on 20", "slip.txt", "1 error, no warnings", "What is wrong", SLIP, "Nodes", "Signals", "Parameters", "Heartbeats", "Missed after"):
+    tables = "Nodes", "Signals", "Parameters", "Heartbeats", "Missed after"
+    for words in ("made on 20", "slip.txt", "1 error, no warnings", "What is wrong", SLIP) + tables:
         assert words in text, words
 
 
@@ -101,7 +102,9 @@ def test_all_of_the_run_is_printed_below_what_is_wrong():
         assert words in text, words
     spans = re.findall(r"slip\.txt: ([\d,.]+) to ([\d,.]+) ms", text)
     end = int(re.search(r'"end":(\d+)', page).group(1)) / 1000
-    assert spans[0][0] == "0" and all(one[1] == other[0] for one, other in zip(spans, spans[1:])) and float(spans[-1][1].replace(",", "")) >= end - .001, (spans, end)
+    assert spans[0][0] == "0" and all(one[1] == other[0] for one, other in zip(spans, spans[1:])), spans
+    assert float(spans[-1][1].replace(",", "")) >= end - .001, (spans, end)
     pictures = subprocess.run(["pdfimages", "-list", "timeline.pdf"], stdout=subprocess.PIPE, check=True).stdout.count(b" image ")
-    drawn = [text.count(words) for words in ("manager node 127", "configured x_axis node 1", "configured motion node 10", "bus load in each 10 ms")]
+    lanes = "manager node 127", "configured x_axis node 1", "configured motion node 10", "bus load in each 10 ms"
+    drawn = [text.count(words) for words in lanes]
     assert sheets >= 1 and (pictures or min(drawn)) >= len(spans), (sheets, pictures, drawn)

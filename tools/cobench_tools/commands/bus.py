@@ -17,7 +17,7 @@ don't say comes from CAN_INTERFACE and CAN_CHANNEL or from its configuration fil
 
 {actions}
 
-Nothing is sent but what an action says. `cobtool bus ACTION --help` tells the words of
+Nothing is sent but what an action says. `cobtool bus ACTION --help` has the words of
 each, with an example. Status: 0 where all is well, 1 where a device isn't as it
 should be, refuses or doesn't answer, 2 where the action can't do its work, 130
 where Ctrl-C ended it.

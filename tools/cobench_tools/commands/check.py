@@ -6,18 +6,18 @@ from ..script_order import ScriptOrder
 
 SUMMARY = "say all that is wrong with a script, each with its line and cause"
 
-AFTER = f"""Runs cobench on SCRIPT, and tells each refused command, each diagnostic of the
+AFTER = f"""Runs cobench on SCRIPT, and reports each refused command, each diagnostic of the
 project that the script makes, each node that fails to boot or isn't configured at
 the horizon, each emergency of the planned run that no event explains, with the
-nodes that it stops, and each message that never comes. Warnings tell of lines that
-a later one replaces, of messages without a source or a sink, of events behind the
-horizon, and of data sheets that rule the bit rate out or have faults:
+nodes that it stops, and each message that never comes. Warnings are about
+lines that a later one replaces, messages without a source or a sink, events behind
+the horizon, and data sheets that rule the bit rate out or have faults:
 
   net.txt:12: error: message y: sink 1 of .. has 32 bits, and source 1 .. 16 [E09]
 
-The line is that of the command, or of the data sheet, that it is about; they stand
-in the order of the script. Below stands in one line how much there is, and how many
-nodes booted.
+FILE:LINE is the command, or the line of the data sheet, that a finding is about;
+findings stand in the order of the script. The last line has how many there are, and
+how many nodes booted.
 
 {acceptance.HELP}
 

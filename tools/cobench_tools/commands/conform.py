@@ -12,7 +12,7 @@ from ..logs import part, source
 
 SUMMARY = "say what was recorded on a bus beside what a script plans"
 
-AFTER = f"""Runs cobench on SCRIPT, reads LOG in one pass, and tells what isn't as planned, each
+AFTER = f"""Runs cobench on SCRIPT, reads LOG in one pass, and reports what isn't as planned, each
 cause once, with its line in LOG, how often it was there, first and last:
 
   machine.log:3712: error: node 2 y_axis: its heartbeat comes 152.310 ms after .. [heartbeat-missed]
@@ -26,15 +26,15 @@ terminal; its content says which. BLF and MF4 are read by python-can, where it i
 installed. LOG may begin and end anywhere, and - is the standard input. --from and --to
 take a part of it, by seconds or by a line, as L1234. Error frames and remote frames are
 warnings; frames with 29-bit identifiers and FD frames are counted and set aside. The
-load is that of all frames, at the bit rate of SCRIPT or of --bitrate. A last line that
-is cut is taken where it is accepted by --allow cut.
+load counts all frames, at the bit rate of SCRIPT or of --bitrate. --allow cut accepts
+a last line that is cut.
 
-What the planned run shows itself, as a power cut of the scenario and what follows on
-it, isn't told where LOG has it at the same time. The two are laid on one another by
-the first boot-up message or command, else by SYNC.
+What the planned run has at the same time, as a power cut of the scenario and what
+follows from it, isn't reported. The first boot-up message or command of LOG, else the
+first SYNC, says where in the planned run LOG begins.
 
-The plan is the network at the end of SCRIPT; where edits stand behind its last
-`trace`, it is the one at that where LOG begins as it does. --trace says which.
+The plan is the network at the end of SCRIPT; if edits stand behind its last `trace`,
+it is the network at that `trace` where LOG begins as that does. --trace says which.
 
 Times may be off by the jitter, {tolerances.JITTER} us where --jitter doesn't say it (at most an
 eighth of a period), and by {tolerances.CLOCK} ppm of what is measured. A frame isn't late that
@@ -42,7 +42,7 @@ had to wait for the bus.
 
 A finding is accepted by the words that say which it is: the code, and what it is
 of, as 'emcy 5 8130', 'pdo-missing 181', 'sdo-value 5 1017'; --json has them. The
-first words will do. An accepted finding isn't told, and counts for no status.
+first words will do. An accepted finding isn't reported, and counts for no status.
 
 {session.PROGRAM} Status: 0 without errors, 1 with some, 2 where SCRIPT or LOG can't be
 read, or cobench can't be run.

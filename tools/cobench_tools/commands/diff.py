@@ -1,21 +1,21 @@
-"""Tells what is other in one network than in another."""
+"""Says what differs between two networks."""
 import os
 import tempfile
 
 from .. import difference, session, tool, versions, within
 
-SUMMARY = "tell what is other in one script than in another, or than in git's version of it"
+SUMMARY = "say what differs between two scripts, or between a script and its version in git"
 
-AFTER = f"""Runs cobench on both scripts, and tells what changes from A to B: settings, nodes and
+AFTER = f"""Runs cobench on both scripts, and prints what changes from A to B: settings, nodes and
 the values in their files, messages with their identifiers and PDOs, events, what
 is wrong, and from which moment on the traces differ. What is new has a +, what is
-gone a -. Of what is equal nothing is told.
+gone a -. Of what is equal nothing is printed.
 
 A and B are files, or REV:FILE, a version of git with the data sheets and scripts
 that it takes in; FILE is looked for from the top of the work tree. With --git REV
 the one SCRIPT is compared with its version REV.
 
-{session.PROGRAM} Status: 0 where nothing is other, 1 where something is, 2 where a
+{session.PROGRAM} Status: 0 where nothing differs, 1 where something does, 2 where a
 script can't be read or cobench can't be run.
 
   cobtool diff --git HEAD network.txt

@@ -6,13 +6,13 @@ from . import check
 
 SUMMARY = "check a script, and write the files of its network: DCF, concise DCF, trace"
 
-AFTER = f"""Tells what `cobtool check` tells. Without an error it writes into DIR, which is made
+AFTER = f"""Reports what `cobtool check` reports. Without an error it writes into DIR, which is made
 where it isn't there, for each node ID_NAME.dcf (its DCF) and ID_NAME.bin (the bytes
 of its concise DCF, as object 1F22h takes them), and diagnostics.txt, trace.txt,
 trace.log (candump). With --force it writes in spite of errors what the accepted
 commands make. Files that are there are replaced: all of them, or none, also where
 it is interrupted. The last file is export.json, with the digest of each one; by it
-`cobtool check --files DIR SCRIPT` says later which of them are others. One export
+`cobtool check --files DIR SCRIPT` says later which of them have changed. One export
 at a time writes into a folder: the next one waits, at most ten seconds. What a
 killed one left half done the next one puts in order.
 

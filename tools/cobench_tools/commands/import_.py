@@ -13,7 +13,7 @@ sheets without these values, the nodes, a `param` for each value that can be
 written and isn't the default's, and the messages: TPDOs and RPDOs with one COB-ID
 belong together. Of a file as cobench prints them each value becomes a `param`.
 
-What a script can't say is told as FILE:LINE: warning: a value of an entry that is
+What a script can't say is reported as FILE:LINE: warning: a value of an entry that is
 read only, an RPDO whose sender is in none of the files, a mapping that fits to no
 value of the sender, an identifier that a node takes twice, as an RPDO stays on by its
 default, a key of the commissioning section but NodeID, NodeName and Baudrate. A value

@@ -25,7 +25,7 @@ their own period. What may be late is an error; emergencies, SDO and frames of o
 have no deadline. The boot has a table of its own.
 
 A frame that is sent at changes, without inhibit time and event time, has no bound,
-and neither has what goes behind it: a warning tells what bounds it. With --assume US
+and neither has what goes behind it: a warning says what would bound it. With --assume US
 it is taken to come at most each US microseconds.
 
 The waits are those of Davis, Burns, Bril and Lukkien, Real-Time Systems 35 (2007).

@@ -10,7 +10,7 @@ configured: nodes, messages with their COB-IDs, the signals in each with those w
 take them, parameters and heartbeats. A TPDO that no message sets, and that a
 device has switched on by its defaults, stands with them. HTML is one page that
 needs nothing beside it, and prints on A4: it says when it was made, of which version
-of SCRIPT, where git has one, and what is wrong; CSV is one table, that of the signals
+of SCRIPT, where git has one, and what is wrong; CSV is one table: the signals,
 where --table doesn't say which.
 
 {network.HELP}

@@ -13,7 +13,7 @@ higher identifier starts). For each boot of a node when it began, and how long i
 took. For SYNC its period, and the time to the last PDO that follows it. Instead of
 SCRIPT a TRACE may stand, the replies of a session with `trace` in it, or the lines of
 a trace alone, with --script SCRIPT for its names; - is the standard input. CSV is one
-table, that of the identifiers where --table doesn't say which.
+table: the identifiers, where --table doesn't say which.
 
 {view.HELP}
 

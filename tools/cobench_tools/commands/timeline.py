@@ -16,7 +16,7 @@ standard input.
 
 The file needs nothing beside it and no network, and prints whole: it says when it was
 made, of which version of SCRIPT, where git has one, and what is wrong. The wheel scrolls, and zooms with
-Ctrl; dragging moves; two fingers zoom; pointing or tapping tells what is there;
+Ctrl; dragging moves; two fingers zoom; pointing or tapping says what is there;
 the button ? lists the keys. The page's address ends with the part of the run that
 is shown, in microseconds: trace.html#120000-280000 opens that part. Status: 0, 1
 where SCRIPT has errors, or 2 where there is no trace; nothing is printed then.

@@ -146,12 +146,12 @@ class Answers:
 
     def take(self, answered, evidence, is_first):
         """The items that are other than before a save; of the first one nothing is marked as new."""
+        items = self._take_nodes(answered, evidence, is_first)
+        items.update(self.tables.take(answered, self.sheets, self.files))
+        evidence.know(self.tables.nodes())
         self._found = findings.refused(answered) + findings.diagnosed(evidence) + findings.unused_values(evidence)
         self._found += slips.of(evidence) + taken_twice.of(evidence) + self._faults.of(evidence)
-        items = {"wrong": self._wrong(answered)}
-        items.update(self._take_nodes(answered, evidence, is_first))
-        items.update(self.tables.take(answered, self.sheets, self.files))
-        return items
+        return {**items, "wrong": self._wrong(answered)}
 
     def _wrong(self, answered):
         """What is wrong so far; the user accepts some of it."""

@@ -31,12 +31,16 @@ class Tables:
     def take(self, answered, sheets, files):
         """The tables as items, None for one that isn't there; where all that one is made of is as before, no row is marked."""
         self._nodes = {node: self._node(node, sheets[eds], files[node]) for node, (_, eds) in answered.project.nodes.items()}
-        wiring = Wiring(answered, {node: known.node for node, known in self._nodes.items()})
+        wiring = Wiring(answered, self.nodes())
         shown, made_of, self._made_of = self._tables, self._made_of, self._parts(wiring)
         self._tables = {key: without_marks(shown[key]) if made_of and self._made_of[key] == made_of[key]
                         else table_item(make(wiring), None if made_of is None else shown[key] or NO_ROWS)
                         for key, make in TABLES.items()}
         return {f"table/{key}": table for key, table in self._tables.items()}
+
+    def nodes(self):
+        """The nodes by their numbers, with the values that their entries have once they are configured."""
+        return {number: known.node for number, known in self._nodes.items()}
 
     def _node(self, number, sheet, file):
         """What is known of a node."""

@@ -1,11 +1,16 @@
 /* About this page, behind a button and the key `?`: what its marks mean, its keys, and how long each save took to be shown. */
 
-const PAGE_KEYS = [["1 to 4", "a part of the page"], ["Tab, Enter", "go to a line of a finding, a node, a file; open it"], ["?", "this help"]];
+const PAGE_KEYS = [["1 to 4", "a part of the page"], ["Tab, Enter", "go to a line of a finding, a node, a file; open it"],
+  ["?", "this help"]];
 
 // The steps of a save in the words of who edits.
-const STEP_WORDS = { read: "reading the files", "project apart": "working out the network", edits: "sending the changes", "started afresh": "starting cobench anew",
-  "diagnostics and files": "checking, and making the files", lists: "what is wrong, and the tables", part: "simulating a first part",
+const STEP_WORDS = { read: "reading the files", "project apart": "working out the network", edits: "sending the changes",
+  "started afresh": "starting cobench anew", "diagnostics and files": "checking, and making the files",
+  lists: "what is wrong, and the tables", part: "simulating a first part",
   "its picture": "drawing it", trace: "simulating", picture: "drawing" };
+
+const ADDRESS = "The address ends with what is shown: the part, and of the run from where to where in microseconds, " +
+  "as in #run/120000-280000.";
 
 class About {
   constructor(opener) {
@@ -16,8 +21,8 @@ class About {
       element("p", {}, "It shows what cobench answers for the script as it was saved last. All editing is in your editor."),
       element("h3", {}, "Marks"), marksTable(),
       element("p", { class: "soft" }, "Marks are of the last save; the next one takes them away."),
-      element("h3", {}, "Keys"), helpTable(PAGE_KEYS), element("h3", {}, "Keys, mouse and fingers of the run"), helpTable([...MOUSE, ...FINGERS, ...KEYS.filter(([key]) => key !== "?")]),
-      element("p", { class: "soft" }, "The address ends with what is shown: the part, and of the run from where to where in microseconds, as in #run/120000-280000."),
+      element("h3", {}, "Keys"), helpTable(PAGE_KEYS), element("h3", {}, "Keys, mouse and fingers of the run"),
+      helpTable([...MOUSE, ...FINGERS, ...KEYS.filter(([key]) => key !== "?")]), element("p", { class: "soft" }, ADDRESS),
       element("h3", {}, "Saves"), this.saves);
     document.body.append(this.dialog);
     opener.addEventListener("click", () => this.open());
@@ -33,14 +38,16 @@ class About {
 function marksTable() {
   const row = (mark, words) => element("tr", {}, element("td", {}, mark), element("td", {}, words));
   const line = kind => element("span", { class: "chip change" }, element("i", { class: kind }));
-  return element("table", { class: "marks" }, row(element("mark", {}, "value"), "is new, or was another"), row(element("del", {}, "value"), "has gone, or is what was there before"),
+  return element("table", { class: "marks" }, row(element("mark", {}, "value"), "is new, or was another"),
+    row(element("del", {}, "value"), "has gone, or is what was there before"),
     row(line("new"), "in the run: a frame that is new, or has other bytes"), row(line("moved"), "a frame that comes at another time alone"),
     row(line("gone"), "a frame that has gone"), row("pale", "isn't simulated yet, and of the save before"));
 }
 
 /** A save: how long it took until all of it was there, and what of the run is other. */
 function saveEntry(save) {
-  const files = save.files.join(", ") || "cobench", where = save.windows ? `${counted(save.windows)} of ${several(save.ofWindows, "part")} of the run changed` : "the run is as it was";
+  const files = save.files.join(", ") || "cobench", parts = `${counted(save.windows)} of ${several(save.ofWindows, "part")}`;
+  const where = save.windows ? `${parts} of the run changed` : "the run is as it was";
   const made = element("li", {}, element("div", { class: "where" }, element("code", {}, save.clock), element("b", {}, files),
     element("span", { class: "soft" }, where), element("b", { class: "all" }, `${save.all.toLocaleString("en")} ms`)),
   element("div", { class: "soft" }, save.steps.map(([what, time]) => `${STEP_WORDS[what] || what} ${time} ms`).join(", ")));
@@ -52,5 +59,6 @@ function saveEntry(save) {
 /** The commands by which the network before became this one. */
 function editList(save) {
   const more = save.count > save.edits.length ? [`and ${counted(save.count - save.edits.length)} more`] : [];
-  return element("details", {}, element("summary", {}, `what changed: ${several(save.count, "command")}`), element("pre", {}, save.edits.concat(more).join("\n")));
+  const lines = save.edits.concat(more).join("\n");
+  return element("details", {}, element("summary", {}, `what changed: ${several(save.count, "command")}`), element("pre", {}, lines));
 }

@@ -56,8 +56,9 @@ class NodesPart {
   }
 
   filter() {
-    const wanted = this.search.value.trim().toLowerCase(), hides = card => !card.fits(wanted) || this.isChanged.checked && !isMarked(card.node);
-    for (const card of this.cards.values()) card.element.hidden = hides(card);
+    const wanted = this.search.value.trim().toLowerCase();
+    for (const card of this.cards.values())
+      card.element.hidden = !card.fits(wanted) || this.isChanged.checked && !isMarked(card.node);
   }
 }
 

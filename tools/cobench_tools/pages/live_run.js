@@ -101,7 +101,8 @@ class FrameTable {
     this.below = element("div", {});
     this.scroller = element("div", { class: "rows", tabindex: "0", role: "region", "aria-label": "frames" },
       this.above, frameTable(this.body), this.below);
-    this.bar = element("div", { class: "bar" }, this.node, this.kind, this.text, element("label", {}, this.isNew, " changed by the save"), this.count);
+    this.bar = element("div", { class: "bar" }, this.node, this.kind, this.text,
+      element("label", {}, this.isNew, " changed by the save"), this.count);
     this.element = element("div", { class: "frames" }, this.bar, this.scroller);
     for (const field of [this.node, this.kind, this.text, this.isNew]) field.addEventListener("input", () => this.filter());
     this.draw = onceAFrame(() => this.drawNow());
@@ -121,8 +122,8 @@ class FrameTable {
   /** Which frames are listed: by sort, as all frames of a sort have the same node, kind and subject. */
   filter() {
     const { trace } = this, wanted = this.text.value.trim().toLowerCase();
-    const fits = trace.sorts.concat(trace.goneSorts).map(sort => (!this.node.value || String(trace.lanes[sort.lane].key) === this.node.value) &&
-      (!this.kind.value || String(sort.kind) === this.kind.value) && (!wanted || subjectOf(sort).toLowerCase().includes(wanted)));
+    const fits = trace.sorts.concat(trace.goneSorts).map(sort =>
+      (!this.node.value || String(trace.lanes[sort.lane].key) === this.node.value) && (!this.kind.value || String(sort.kind) === this.kind.value) && (!wanted || subjectOf(sort).toLowerCase().includes(wanted)));
     this.found = trace.inOrder().filter(i => fits[trace.sort[i]] && (!this.isNew.checked || trace.fresh.has(i) || trace.isGone(i)));
     const gone = this.found.reduce((sum, i) => sum + trace.isGone(i), 0), behind = gone ? `, ${counted(gone)} gone` : "";
     this.count.textContent = `${counted(this.found.length - gone)} of ${several(trace.count, "frame")}${behind}`;
@@ -149,9 +150,10 @@ class FrameTable {
   row(frame) {
     const { trace } = this, sort = trace.sortOf(frame), kind = trace.kinds[sort.kind];
     const time = element("button", { type: "button", class: "link", title: "show it in the timeline" }, shownTime(trace.time[frame]));
-    const bytes = element("td", {}, ...trace.was.has(frame) ? [element("del", {}, spaced(trace.was.get(frame))), " "] : [], spaced(trace.bytes(frame)));
+    const was = trace.was.has(frame) ? [element("del", {}, spaced(trace.was.get(frame))), " "] : [];
     const cells = [time, trace.identifier(frame), kind, trace.lanes[sort.lane].name];
-    const made = element("tr", this.markOf(frame), ...cells.map(cell => element("td", {}, cell)), element("td", {}, ...valuesFirst(trace, frame)), bytes);
+    const made = element("tr", this.markOf(frame), ...cells.map(cell => element("td", {}, cell)),
+      element("td", {}, ...valuesFirst(trace, frame)), element("td", {}, ...was, spaced(trace.bytes(frame))));
     made.children[2].prepend(element("i", { style: `background: var(--${colourOf(kind)})` }));
     made.addEventListener("click", () => this.chosen(frame));
     return made;

@@ -20,8 +20,9 @@ function tableOf(columns, rows, numbers, marks, was = {}, gone = []) {
 /** A row; cells that were otherwise have that before them. */
 function rowOf(cells, numbers, kind, was) {
   const isOther = n => was && was[n] !== cells[n];
-  const cell = (text, n) => element("td", kindOf(text, numbers[n]), ...isOther(n) ? [element("del", {}, was[n]), " ", element("mark", {}, text)] : [text]);
-  return element("tr", kind ? { class: was ? "changed" : kind } : {}, ...cells.map(cell));
+  const both = (text, n) => isOther(n) ? [element("del", {}, was[n]), " ", element("mark", {}, text)] : [text];
+  const columns = cells.map((text, n) => element("td", kindOf(text, numbers[n]), ...both(text, n)));
+  return element("tr", kind ? { class: was ? "changed" : kind } : {}, ...columns);
 }
 
 class MessagesPart {

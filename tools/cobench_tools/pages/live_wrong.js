@@ -22,11 +22,20 @@ class Places {
     const asked = new URLSearchParams(location.search);
     asked.set("file", file);
     asked.set("line", line);
-    try { return await (await fetch("open?" + asked, { method: "POST" })).text(); } catch (error) { return "cobtool live can't be reached"; }
+    try {
+      return await (await fetch("open?" + asked, { method: "POST" })).text();
+    } catch (error) {
+      return "cobtool live can't be reached";
+    }
   }
 
   async copy(file, line) {
-    try { await navigator.clipboard.writeText(`${file}:${line}`); return "copied"; } catch (error) { return "the browser doesn't let it be copied"; }
+    try {
+      await navigator.clipboard.writeText(`${file}:${line}`);
+      return "copied";
+    } catch (error) {
+      return "the browser doesn't let it be copied";
+    }
   }
 }
 
@@ -49,7 +58,8 @@ class WrongPart {
     const { errors, warnings, findings } = items.get("wrong") || { errors: 0, warnings: 0, findings: [] };
     const boots = items.get("boots"), open = findings.filter(each => !each.accepted), accepted = findings.filter(each => each.accepted);
     const gone = this.gone(findings), changes = changesWords({ gone: gone.length, fresh: open.filter(each => this.isNew(each)).length });
-    this.summary.replaceChildren(countsText(errors, warnings) + " ", element("span", { class: "of-run" }, boots ? sentence(boots.text) : ""),
+    const booted = element("span", { class: "of-run" }, boots ? sentence(boots.text) : "");
+    this.summary.replaceChildren(countsText(errors, warnings) + " ", booted,
       changes ? element("span", { class: "tag" }, changes) : "");
     this.summary.className = "summary " + (errors ? "wrong" : warnings ? "warned" : "well");
     this.list.replaceChildren(...open.map(each => this.finding(each)), ...gone.map(each => this.finding(each, true)));

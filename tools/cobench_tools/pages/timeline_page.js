@@ -11,7 +11,9 @@ function summaryOf(content, trace) {
 }
 
 /** What is wrong with the script, line by line. */
-const wrongLines = ({ wrong }) => element("ol", { class: "lines" }, ...(wrong || []).map(([severity, line]) => element("li", { class: severity }, line)));
+function wrongLines({ wrong }) {
+  return element("ol", { class: "lines" }, ...(wrong || []).map(([severity, line]) => element("li", { class: severity }, line)));
+}
 
 /** The same behind a button. */
 function wrongBox(content) {

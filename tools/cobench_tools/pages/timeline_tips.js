@@ -7,7 +7,8 @@ function findAt(view, x, y) {
   const lane = y < AXIS ? undefined : view.lanes.at(y - AXIS + view.scrolled());
   if (!lane) return null;
   if (lane.signal) return tellSignal(view, lane, scale.time(x));
-  const within = y - AXIS + view.scrolled(), gone = within > lane.top + lane.height - 8 ? nearestIn(view, view.trace.goneRows[lane.number], scale.time(x)) : null;
+  const within = y - AXIS + view.scrolled(), isBelow = within > lane.top + lane.height - 8;
+  const gone = isBelow ? nearestIn(view, view.trace.goneRows[lane.number], scale.time(x)) : null;
   if (gone !== null) return tellFrame(view, gone);
   const flag = within < lane.top + view.lanes.flags ? nearestFlag(view, lane, x) : null;
   if (flag) return tellFlag(view, flag.flag, flag.others);
@@ -58,9 +59,10 @@ function ofSave(trace, frame) {
 
 function tellFrame(view, frame) {
   const { trace } = view, sort = trace.sortOf(frame), kind = trace.kinds[sort.kind], said = trace.said(frame);
+  const behind = ofBefore(trace, trace.time[frame]) + ofOther(trace, frame) + ofSave(trace, frame);
   return {
     time: trace.time[frame], lane: sort.lane, frame, colour: colourOf(kind),
-    head: `${shownTime(trace.time[frame])} · ${kind} · ${trace.lanes[sort.lane].said}${ofBefore(trace, trace.time[frame])}${ofOther(trace, frame)}${ofSave(trace, frame)}`,
+    head: `${shownTime(trace.time[frame])} · ${kind} · ${trace.lanes[sort.lane].said}${behind}`,
     words: said.subject, values: said.values.concat(trace.was.has(frame) ? ["before: " + spaced(trace.was.get(frame))] : []),
     code: `${trace.identifier(frame)} [${sort.size}] ${spaced(trace.bytes(frame))}`,
   };

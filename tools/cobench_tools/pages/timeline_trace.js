@@ -47,7 +47,8 @@ class Trace {
     this.known = content.known < content.end ? content.known : Infinity;   // behind this moment it is of the trace before
     this.bit = content.bit;
     this.kinds = content.kinds;
-    this.lanes = content.lanes.map(([key, name, title, planned, gone]) => ({ key, name, title, planned: Boolean(planned), gone: Boolean(gone),
+    this.lanes = content.lanes.map(([key, name, title, planned, gone]) => ({
+      key, name, title, planned: Boolean(planned), gone: Boolean(gone),
       said: planned ? name + ", planned" : name, flags: [], states: content.states[key] || [] }));
     this.laneOf = new Map(this.lanes.map((lane, number) => [lane.key, number]));
     this.sorts = content.sorts.map(row => this.sortOfRow(row));

@@ -19,8 +19,8 @@ version 2 all by one command once all mandatory ones are. A node that isn't
 configured is never started: where one failed that needn't be there, the others are
 started one by one.
 
-What goes wrong ends the boot of that node, and is told with the line of SCRIPT that
-has the value written, and how far it came:
+What goes wrong ends the boot of that node, and is reported with the line of SCRIPT
+that gives the value, and how far the writes came:
 
   network.txt:9: error: node 1 x_axis: 6065h:00 .. := 8192 (2000h): abort 06090031 value too high [sdo-abort]
   network.txt:9: note: 12 of 34 writes are confirmed, the last one ..; the node isn't started
@@ -28,7 +28,7 @@ has the value written, and how far it came:
 Before the first write the bus is listened to, and you are asked. It is refused
 where another master is there, where a node is operational (--reset resets each node
 first), and where SCRIPT has errors that aren't accepted; --force does it all the
-same. Ctrl-C ends it: the node in hand isn't started, and what is written is told.
+same. Ctrl-C ends it: the node in hand isn't started, and what was written is printed.
 
 Status: 0, 1 where a node isn't configured, 2 where nothing was written or the adapter
 fails, 130 after Ctrl-C.

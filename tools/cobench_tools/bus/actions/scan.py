@@ -15,8 +15,8 @@ and its identity (1018h) by SDO. Nothing is written, and nothing else is sent. W
 SCRIPT it says of each whether it is the planned node, and of others which data
 sheet of SCRIPT they fit to.
 
-The state is that of the last heartbeat; where none comes while it listens, it is
-unknown. Two answers from one number are told: two devices have it.
+The state comes from the last heartbeat; if none comes while it listens, it is
+unknown. Two answers from one number are reported: two devices have it.
 
 Status: 0, 1 where with SCRIPT something isn't as planned or two devices have one
 number, 2 where the bus can't be used.

@@ -18,7 +18,7 @@ written, and the PDOs, and prints the data sheet with these values: a DCF, which
 
 Left out are values of the process, which an RPDO of the device writes, errors so
 far (1003h), and the objects that store, restore or load programs. What the device
-doesn't give is told as FILE:LINE: warning.
+doesn't give is reported as FILE:LINE: warning.
 
 Status: 0, 1 where the device doesn't answer and nothing is printed, 2 where it
 can't be asked.

@@ -13,7 +13,7 @@ from ..verify import Comparison
 SUMMARY = "compare what the devices hold with what a script writes into them"
 
 AFTER = """Reads of each node who it is (1000h, 1018h) and every entry that its concise DCF
-writes, and tells what is other, with the line of SCRIPT that has it written:
+writes, and reports each value that differs, with the line of SCRIPT that gives it:
 
   network.txt:9: error: node 1 x_axis: 6065h:00 ..: 8192 (2000h) is planned, and the device has 4096 (1000h) [differs]
 

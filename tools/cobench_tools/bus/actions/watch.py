@@ -16,9 +16,9 @@ from ..watch_page import PageServer, content_of
 
 SUMMARY = "say what isn't as planned while the machine runs"
 
-AFTER = """Listens to the bus, and tells what isn't as SCRIPT plans it when it comes, by the
+AFTER = """Listens to the bus, and reports what isn't as SCRIPT plans it when it comes, by the
 rules and in the words of `cobtool conform`, and each change of a node's state.
-Nothing is sent. What stays away is told once it is late. Ctrl-C ends it, or
+Nothing is sent. What stays away is reported once it is late. Ctrl-C ends it, or
 --seconds: then the report of `conform` follows, each cause with how often it was
 there.
 

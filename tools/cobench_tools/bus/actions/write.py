@@ -14,7 +14,7 @@ hexadecimal digits, as `param` of a script has it. Type, access and limits are t
 of the data sheet that --script or --eds names; without one --type says the type.
 What the data sheet doesn't allow is refused, and --force sends it all the same.
 
-Before it is sent, the bus is listened to, each sign of another master is told, and
+Before it is sent, the bus is listened to, each sign of another master is reported, and
 you are asked; --yes sends it without asking.
 
 Status: 0, 1 where the device refuses or doesn't answer, 2 where nothing was sent.
