@@ -31,6 +31,7 @@ def test_the_wheel_has_all_of_the_package():
     record = dict((row[0], row) for row in csv.reader(open("installed/cobtool-0.1.0.dist-info/RECORD")))
     assert set(record) == set(names) and all(int(row[2] or 0) == os.path.getsize(f"installed/{each}") or "RECORD" in each
                                              for each, row in record.items())
+    os.environ["SOURCE_DATE_EPOCH"] = "1770112800"      # both pages are made at one time
     page = run("timeline", example("io_modules.replies.txt"))[1]
     words = "import sys; sys.path.insert(0, 'installed'); from cobench_tools.main import main; sys.exit(main())"
     done = subprocess.run([sys.executable, "-I", "-c", words, "timeline", example("io_modules.replies.txt")], stdout=subprocess.PIPE)
