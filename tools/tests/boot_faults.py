@@ -2,7 +2,7 @@
 from recording import DOWNLOADS
 
 PDO_MAPPINGS = list(range(0x1600, 0x1800)) + list(range(0x1A00, 0x1C00))
-START_OVER = 60_000     # microseconds behind the last boot after which the start of a machine is over for sure
+START_OVER = 110_000    # microseconds behind the last boot after which the start of a machine is over for sure
 BEHIND = 20_000     # microseconds that a recording has to go on behind a fault at which something stays away
 
 
@@ -133,16 +133,18 @@ def boots_twice(recording):
 def never_boots(recording):
     """Nothing of a node is there, in a recording that goes on behind the boots of all.
 
-    The one that boots first may have done so before the recording, if it has no heartbeat.
+    The one that boots first may have done so before the recording: its heartbeat has to be late there.
     """
     boots = recording.places(lambda time, identifier, data: 0x580 < identifier < 0x680 or identifier > 0x700 and data == b"\0")
-    if not boots or recording.frames[boots[-1]][0] > recording.end - START_OVER:
+    rest = recording.end - recording.frames[boots[-1]][0] if boots else 0
+    if rest < START_OVER:
         return None
     nodes = [node for node in recording.plan.nodes if recording.of(0x700 + node)]
     if len(nodes) < 2:
         return None
     node = recording.dice.one(nodes)
-    if node == min(nodes, key=lambda each: recording.of(0x700 + each)[0]) and not recording.plan.nodes[node].heartbeat:
+    period = recording.plan.nodes[node].heartbeat
+    if node == min(nodes, key=lambda each: recording.of(0x700 + each)[0]) and not 0 < 2 * period < rest:
         return None
     own = {0x700 + node, 0x580 + node, 0x80 + node} | {tpdo.identifier for tpdo in recording.plan.wiring.tpdos if tpdo.node == node}
     return recording.filled(lambda place, frame: frame[1] in own), "never-seen", None
