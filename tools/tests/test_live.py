@@ -20,9 +20,8 @@ from cobench_tools.live.feed import Feed
 from cobench_tools.live.opened import Opened
 from cobench_tools.live.run import spans_of
 from cobench_tools.live.server import Server
-from cobench_tools.commands.live import PORT
 from cobench_tools.picture import Drawing, Sorts, Window
-from helper import BINARY, COBTOOL, EXAMPLES, ROOT, file, is_refused, put, recorded, recorded_replies, run, run_alone
+from helper import BINARY, COBTOOL, EXAMPLES, file, is_refused, put, run, run_alone
 from live_scene import FOLDER, Scene, wait_until, window_of, words
 
 

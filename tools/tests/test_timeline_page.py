@@ -306,6 +306,14 @@ def test_chips_hide_kinds():
         assert not columns(page, y, "sdo")
 
 
+def test_the_key_of_the_help_opens_it():
+    with opened(servo()) as page:
+        page.key("?")
+        assert page.value("document.querySelector('.pop[open]').innerText").count("zoom") > 1
+        page.key("Escape", 27)
+        assert page.value("document.querySelectorAll('.pop[open]').length") == 0
+
+
 def test_the_page_reads_values_as_explain_does():
     chance = random.Random(62)
     kinds = {1: "bit", 2: "signed", 3: "signed", 4: "signed", 0x15: "signed", 5: "unsigned", 6: "unsigned", 7: "unsigned", 0x1B: "unsigned", 0: "unsigned"}

@@ -6,7 +6,7 @@ import copy
 import functools
 import re
 
-from .. import acceptance, concise, device, findings, ini, judgement, matrix, pdo_values, safe_text, slips, taken_twice, tool, trace
+from .. import acceptance, concise, device, findings, ini, judgement, matrix, pdo_values, safe_text, slips, taken_twice, tool
 from ..evidence import Evidence
 from ..report import Report, json_of
 from ..script_order import ScriptOrder
