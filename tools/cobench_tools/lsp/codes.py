@@ -7,8 +7,8 @@ MEANINGS = {
         "wrong, or the EDS is of another device or firmware.",
         "Look the index and sub-index up in the manual of the device; take in the EDS of the firmware that it has."),
     "E16": (
-        "The entry is of a type that cobench doesn't model, as REAL32, and so the value isn't written. Where the EDS "
-        "itself gives it, its line stays in the DCF, but the concise DCF hasn't got it.",
+        "cobench doesn't model the entry's type, as REAL32, so the value isn't written. Where the EDS itself gives it, "
+        "its line stays in the DCF, but the concise DCF hasn't got it.",
         "Take the parameter away, and set it with the vendor's tool or from the control program."),
     "E04": (
         "The device lets nobody write the entry: it would abort with 06010002h. Often a value that it measures or "
@@ -52,8 +52,8 @@ MEANINGS = {
         "The receiver has to skip bits that are for others, and can't: its EDS allows no dummy of that width.",
         "Give it a sink for these bits too, or send the values for each receiver in a message of their own."),
     "E12": (
-        "The identifier is that of another message or another service: two senders of one identifier disturb each "
-        "other, and a PDO on one of NMT, SDO or heartbeat is taken for a command or for a sign of life.",
+        "Another message or another service has this identifier: two senders of one identifier disturb each other, and "
+        "a PDO on one of NMT, SDO or heartbeat is taken for a command or for a sign of life.",
         "Set COB to 0, so that the plan finds one, or choose one from 181h on that is free."),
     "E13": (
         "No identifier is left to give to this message.",
@@ -76,8 +76,8 @@ MEANINGS = {
         "Give manager a SYNC_US, or the message the type 254 or 255. Where another device of the machine sends SYNC, "
         "all is well."),
     "W19": (
-        "The watch over another node is of no use: one that is never heard isn't missed, and one that is heard too "
-        "seldom is reported as lost while it works, and the machine may stop.",
+        "Watching that node is of no use: a node that is never heard isn't missed, and one that sends too seldom is "
+        "reported as lost while it works, and the machine may stop.",
         "Give the watched node a producer time (1017h) well below the consumer's time, or set the consumer to 0 where "
         "the node is gone."),
     "W20": (
@@ -85,9 +85,9 @@ MEANINGS = {
         "is a CompactPDO that isn't modelled. What it should say is lost.",
         "Look at the line; correct it, or ask the vendor."),
     "W21": (
-        "The node expects SYNC messages whose counter ends at another number than that of this network, or a counter "
-        "where there is none, or none where there is one. A device that checks the length of SYNC says so in an "
-        "emergency object, and its TPDOs with a SYNC start value may start at another SYNC than was meant.",
+        "The node's SYNC counter doesn't match the network's: it ends at another number, or only one of the two has a "
+        "counter. A device that checks the length of SYNC says so in an emergency object, and its TPDOs with a SYNC "
+        "start value may start at another SYNC than was meant.",
         "Set 1019h:00 of the node by a parameter to the N of sync-counter, or choose that N for the network."),
     "W22": (
         "The TPDO waits for a SYNC with a number that none has, and so is never sent by a device that goes by the "
