@@ -59,7 +59,7 @@ def test_commands_identifiers_and_codes_are_said():
         assert hovered(editor, row, 24).startswith("0: the plan gives the COB-ID"), hovered(editor, row, 24)
         editor.change(NAME, (row, 23, row, 24, "085"))
         said = hovered(editor, row, 25)
-        assert "belongs to SYNC or EMCY" in said and "**E12** The identifier is that of another message or another service" in said, said
+        assert "belongs to SYNC or EMCY" in said and "**E12** Another message or another service has this identifier" in said, said
         assert hovered(editor, 0, 3) is None
 
 
