@@ -25,7 +25,7 @@ and the inputs of worst_inputs.py, which are short beside what they ask for:
              take at most 1.2 times as long as the second 500
   flip       an event that takes one of two forms by turns, 20 times, with a `trace` of ten seconds behind each: a
              turn takes at most 1.2 times as long as the first one
-  moved      126 nodes that have a data sheet of 65,536 lines in turn, which is dropped again: at most 64 MiB
+  moved      126 nodes that have a data sheet of 65,536 lines in turn, which is dropped again: at most 200 MiB
   unused     63 data sheets of 60,000 lines that no node has: 50 turns of an edit and `diag` take at most a tenth of
              reading them
 
@@ -301,7 +301,7 @@ def flip(program):
 
 
 def moved(program):
-    return within(program, "moved", worst_inputs.moved(), 64)
+    return within(program, "moved", worst_inputs.moved(), 200)
 
 
 def unused(program):

@@ -6,7 +6,7 @@ import ini
 
 NODES = 126
 LONGEST = 4070          # digits that a formula can have in a line
-MOST_LINES = 65_536
+MOST_LINES, MOST_ENTRIES = 65_536, 4_096
 COMPACT = "ObjectType=8", "DataType=5", "CompactSubObj=254"
 
 
@@ -74,18 +74,23 @@ def flips(turns, pdos=512):
     return start + [script(f"event 1 200000 nmt {1 + turn % 2} {NODES}", "trace") for turn in range(turns)]
 
 
+def large(lines):
+    """The lines of a data sheet of the most entries, and of comments."""
+    objects = [line for number in range(MOST_ENTRIES) for line in (f"[{0x2000 + number:X}]", "DataType=5")]
+    return objects + ["[Comments]"] + [f"{number:X}=" for number in range(lines - len(objects) - 1)]
+
+
 def moved(turns=NODES):
     """Nodes that have a large data sheet each, are asked about and get a small one, while the large one is dropped."""
-    large = script(*(f"[{number:X}]" for number in range(MOST_LINES)))
+    lines = script(*large(MOST_LINES))
     pieces = [eds("s", ["[2000]", "DataType=5"])]
     for node in range(1, turns + 1):
-        pieces += [script(f"eds x{node} {MOST_LINES}"), large,
+        pieces += [script(f"eds x{node} {MOST_LINES}"), lines,
                    script(f"node {node} n{node} x{node}", f"cdcf {node}", f"node {node} n{node} s", f"drop-eds x{node}")]
     return pieces
 
 
 def unused(turns, count=63, lines=60_000):
     """So many large data sheets that no node has, and turns of an edit and `diag`."""
-    large = [line for number in range(lines // 3) for line in (f"[{number:X}]", "DataType=5", "ParameterName=a")]
-    pieces = [eds("u", ["[2000]", "DataType=5"]), script("node 5 n5 u")] + [eds(f"x{number}", large) for number in range(count)]
+    pieces = [eds("u", ["[2000]", "DataType=5"]), script("node 5 n5 u")] + [eds(f"x{number}", large(lines)) for number in range(count)]
     return pieces + [script(f"horizon {turn}", "diag") for turn in range(turns)]
