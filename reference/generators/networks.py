@@ -80,54 +80,62 @@ def sheet(r):
 def script(r):
     """A network with messages and events, and all queries of it."""
     horizon = r.choice([12000, 20000, 40000])
-    out = ["bitrate %d" % r.choice([1000, 1000, 1000, 500]), "horizon %d" % horizon,
-           "manager %d %d %d %d" % (r.choice([1, 127]), r.choice([0, 1000, 1500, 3000]),
-                                    r.choice([0, 2, 5]), r.choice([1, 2, 500]))]
-    if r.random() < 0.4:
-        out.append("sync-counter %d" % r.choice([2, 3, 4]))
+    lines = settings(r, horizon)
     names = ["a", "b"]
     for name in names:
-        lines = sheet(r)
-        out += ["eds %s %d" % (name, len(lines))] + lines
+        text = sheet(r)
+        lines += [f"eds {name} {len(text)}", *text]
     nodes = r.sample([2, 3, 5, 6], r.choice([2, 3]))
-    for n in nodes:
-        out.append("node %d n%d %s" % (n, n, r.choice(names)))
+    lines += [f"node {node} n{node} {r.choice(names)}" for node in nodes]
     if r.random() < 0.3:
-        out += ["version 2", "need %d mandatory" % r.choice(nodes)]
-    for n in nodes:
-        if r.random() < 0.6:
-            out.append("param %d 1017 0 %d" % (n, r.choice([1, 2, 3])))
-        for s in (1, 2):
-            if r.random() < 0.5:
-                producer, period = r.choice(nodes + [127]), r.choice([1, 2, 3, 4])
-                out.append("param %d 1016 %d 0x%X" % (n, s, producer << 16 | period))
-        if r.random() < 0.2:
-            out.append("param %d 2005 0 some text here" % n)
+        lines += ["version 2", f"need {r.choice(nodes)} mandatory"]
+    for node in nodes:
+        lines += parameters(r, node, nodes)
     for k in range(r.randrange(5)):
-        m, sender = "m%d" % k, r.choice(nodes)
-        out.append("message %s %d %d %d %d %d %s" % (
-            m, sender, r.randint(1, 3), r.choice([0, 1, 2, 3, 254, 255, 255, 252]),
-            r.choice([0, 0, 3, 10, 25]), r.choice([0, 0, 1, 2]),
-            r.choice(["0", "0", "0", "0", "185", "190", "80"])))
-        if r.random() < 0.3:
-            out.append("start %s %d" % (m, r.randint(0, 4)))
-        for pos in range(1, r.randint(1, 4)):
-            entry = r.choice(ENTRIES[:4] + ENTRIES[5:])
-            out.append("source %s %d %s" % (m, pos, entry))
-            others = [n for n in nodes if n != sender]
-            if r.random() < 0.7:
-                out.append("sink %s %d %d %s" % (m, pos, r.choice(others), entry))
-            if r.random() < 0.05:
-                out.append("sink %s %d %d %s" % (m, pos, r.choice(nodes), r.choice(ENTRIES)))
+        lines += message(r, f"m{k}", nodes)
     for k in range(1, r.randrange(2, 14)):
-        t = r.choice([r.randrange(horizon), r.randrange(0, horizon, 1000)])
-        n = r.choice(nodes)
-        out.append("event %d %d " % (k, t) + r.choice([
-            "set %d %s %d" % (n, r.choice(ENTRIES), r.randrange(3)),
-            "set %d %s %d" % (n, r.choice(ENTRIES), r.randrange(250)),
-            "set %d 1017 0 %d" % (n, r.randrange(3)),
-            "set %d 1016 1 0" % n,
-            "power %d %s" % (n, r.choice(["on", "off"])),
-            "nmt %d %d" % (r.choice([1, 1, 2, 128, 129, 130]), r.choice(nodes + [0]))]))
-    out += ["diag"] + ["dcf %d" % n for n in nodes] + ["cdcf %d" % nodes[0], "trace", "project"]
-    return "".join(line + "\n" for line in out).encode()
+        time = r.choice([r.randrange(horizon), r.randrange(0, horizon, 1000)])
+        lines.append(f"event {k} {time} {event(r, nodes)}")
+    lines += ["diag", *(f"dcf {node}" for node in nodes), f"cdcf {nodes[0]}", "trace", "project"]
+    return "".join(line + "\n" for line in lines).encode()
+
+
+def settings(r, horizon):
+    lines = [f"bitrate {r.choice([1000, 1000, 1000, 500])}", f"horizon {horizon}"]
+    numbers = r.choice([1, 127]), r.choice([0, 1000, 1500, 3000]), r.choice([0, 2, 5]), r.choice([1, 2, 500])
+    lines.append("manager %d %d %d %d" % numbers)
+    return lines + ([f"sync-counter {r.choice([2, 3, 4])}"] if r.random() < 0.4 else [])
+
+
+def parameters(r, node, nodes):
+    lines = [f"param {node} 1017 0 {r.choice([1, 2, 3])}"] if r.random() < 0.6 else []
+    for sub in (1, 2):
+        if r.random() < 0.5:
+            producer, time = r.choice(nodes + [127]), r.choice([1, 2, 3, 4])
+            lines.append(f"param {node} 1016 {sub} 0x{producer << 16 | time:X}")
+    return lines + ([f"param {node} 2005 0 some text here"] if r.random() < 0.2 else [])
+
+
+def message(r, name, nodes):
+    sender = r.choice(nodes)
+    numbers = (r.randint(1, 3), r.choice([0, 1, 2, 3, 254, 255, 255, 252]), r.choice([0, 0, 3, 10, 25]), r.choice([0, 0, 1, 2]),
+               r.choice(["0", "0", "0", "0", "185", "190", "80"]))
+    lines = [f"message {name} {sender} %d %d %d %d %s" % numbers]
+    if r.random() < 0.3:
+        lines.append(f"start {name} {r.randint(0, 4)}")
+    for position in range(1, r.randint(1, 4)):
+        entry = r.choice(ENTRIES[:4] + ENTRIES[5:])
+        lines.append(f"source {name} {position} {entry}")
+        if r.random() < 0.7:
+            lines.append(f"sink {name} {position} {r.choice([node for node in nodes if node != sender])} {entry}")
+        if r.random() < 0.05:
+            lines.append(f"sink {name} {position} {r.choice(nodes)} {r.choice(ENTRIES)}")
+    return lines
+
+
+def event(r, nodes):
+    node = r.choice(nodes)
+    return r.choice([
+        f"set {node} {r.choice(ENTRIES)} {r.randrange(3)}", f"set {node} {r.choice(ENTRIES)} {r.randrange(250)}",
+        f"set {node} 1017 0 {r.randrange(3)}", f"set {node} 1016 1 0", f"power {node} {r.choice(['on', 'off'])}",
+        f"nmt {r.choice([1, 1, 2, 128, 129, 130])} {r.choice(nodes + [0])}"])

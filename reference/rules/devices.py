@@ -57,7 +57,7 @@ class Device:
         self.transfer = None
         self.heartbeat = None
         self.consumers = {sub: Consumer() for sub in self.consumer_subs}
-        self.tpdos = {pdo: Tpdo() for pdo in self.tpdo_objects}
+        self.tpdos = {pdo: Tpdo(self, pdo) for pdo in self.tpdo_objects}
         self.kept_frames = {}                          # by RPDO
         self.sync = None                               # that of this instant
 
@@ -95,7 +95,7 @@ class Device:
             self.working[pdo] = works(self, pdo)
             self.kept_frames.pop(pdo, None)
             if pdo in self.tpdos:
-                self.tpdos[pdo] = Tpdo()
+                self.tpdos[pdo] = Tpdo(self, pdo)
 
     def any_failed(self):
         return any(consumer.has_failed for consumer in self.consumers.values())
@@ -117,7 +117,7 @@ class Device:
     def enter(self, state):
         if self.state == OPERATIONAL != state:
             self.waiting.drop(lambda purpose: purpose[0] == "tpdo")
-            self.tpdos = {pdo: Tpdo() for pdo in self.tpdo_objects}
+            self.tpdos = {pdo: Tpdo(self, pdo) for pdo in self.tpdo_objects}
             self.kept_frames = {}
         if state == STOPPED != self.state:
             self.waiting.drop(lambda purpose: purpose[0] in ("sdo", "emergency"))
@@ -232,7 +232,7 @@ class Device:
         for pdo, tpdo in self.tpdos.items():
             tpdo.end_inhibit(now)
             if self.state == OPERATIONAL and self.working[pdo]:
-                data = tpdo.turn(self, pdo, sync, now)
+                data = tpdo.turn(sync, now)
                 if data is not None:
                     self.waiting.replace(("tpdo", pdo), Frame(identifier_of(self, pdo), data))
 

@@ -61,7 +61,8 @@ def counter_overflow(device):
 class Tpdo:
     """What one TPDO remembers: the bytes that were last queued, its moments, the SYNCs that counted, and whether it has started."""
 
-    def __init__(self):
+    def __init__(self, device, pdo):
+        self.device, self.pdo = device, pdo
         self.last = None
         self.inhibit = None
         self.event = None
@@ -73,34 +74,34 @@ class Tpdo:
         if self.inhibit is not None and self.inhibit <= now:
             self.inhibit = None
 
-    def turn(self, device, pdo, sync, now):
+    def turn(self, sync, now):
         """Its turn, with the SYNC of this instant or None: the bytes that are queued, or None."""
-        kind, data = transmission_type(device, pdo), payload_of(device.values, mapping_now(device, pdo))
-        if not self.is_sent(device, pdo, kind, data, sync, now):
+        kind, data = transmission_type(self.device, self.pdo), payload_of(self.device.values, mapping_now(self.device, self.pdo))
+        if not self.is_sent(kind, data, sync, now):
             return None
         self.last = data
         if kind in (254, 255):
-            self.set_moments(inhibit_time(device, pdo), event_time(device, pdo), now)
+            self.set_moments(inhibit_time(self.device, self.pdo), event_time(self.device, self.pdo), now)
         return data
 
-    def is_sent(self, device, pdo, kind, data, sync, now):
+    def is_sent(self, kind, data, sync, now):
         if kind == 0:
             return sync is not None and data != self.last
         if kind is not None and kind <= 240:
-            return sync is not None and self.is_each_nth(device, pdo, kind, sync)
+            return sync is not None and self.is_each_nth(kind, sync)
         return kind in (254, 255) and self.is_event_turn(data, now)
 
-    def is_each_nth(self, device, pdo, kind, sync):
+    def is_each_nth(self, kind, sync):
         """Of the SYNCs that count."""
-        if not self.counts(device, pdo, sync):
+        if not self.counts(sync):
             return False
         self.counted = (self.counted + 1) % kind
         return self.counted == 0
 
-    def counts(self, device, pdo, sync):
+    def counts(self, sync):
         """A TPDO with a start value on a device that counts SYNCs waits for the SYNC with that counter, which is the first."""
-        start = sync_start(device, pdo)
-        if start == 0 or counter_overflow(device) == 0 or self.has_started:
+        start = sync_start(self.device, self.pdo)
+        if start == 0 or counter_overflow(self.device) == 0 or self.has_started:
             return True
         if sync.data != bytes([start]):
             return False
