@@ -24,10 +24,13 @@ def of_check(answered):
     return of_evidence(evidence) + slips.of(evidence) + taken_twice.of(evidence) + sheet_faults.of(evidence)
 
 
-def of_run(evidence):
-    """What is wrong with the boots, and with all that comes behind them."""
+def of_run(evidence, said_of=None):
+    """What is wrong with the boots, and with all that comes behind them.
+
+    said_of  gives for some nodes what was last said by SDO, where that is known already (findings.last_said)
+    """
     lines = trace.of_answer(evidence.answered.lines("trace"))
     run = PlannedRun(evidence, lines)
-    booted = findings.of_boots(evidence, run.boots, lambda nodes: findings.last_said(evidence, lines, nodes),
-                               lambda node, boot: why_not_over(run, node, boot))
+    said_of = said_of or (lambda nodes: findings.last_said(evidence, lines, nodes))
+    booted = findings.of_boots(evidence, run.boots, said_of, lambda node, boot: why_not_over(run, node, boot))
     return booted + RunFindings(evidence, run, booted).all()

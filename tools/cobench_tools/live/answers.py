@@ -163,12 +163,12 @@ class Answers:
         """The items that the trace, which is this text, decides too: what is wrong with all of it, and when each node
         was configured.
         """
-        boots = run.boots()
+        boots, said_of = run.boots(), functools.partial(run.last_said, evidence)
         if text.count(b"\n") > MOST_LINES:
-            self._of_run = findings.of_boots(evidence, boots, lambda nodes: run.last_said(evidence, nodes))
+            self._of_run = findings.of_boots(evidence, boots, said_of)
         else:
             answered.answers["trace"] = text.split(b"\n")[:-1]
-            self._of_run = judgement.of_run(evidence)
+            self._of_run = judgement.of_run(evidence, said_of)
         report = Report(answered, [], boots)
         return {"wrong": self._wrong(answered),
                 "boots": {"text": report.boots_text(), "times": {str(node): time for node, time in report.booted.items()}}}
