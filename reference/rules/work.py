@@ -1,4 +1,4 @@
-"""What is made anew for the answers of a session, at most: docs/costs.md, docs/architecture.md.
+"""What is made anew for the answers of a session: docs/costs.md, docs/architecture.md.
 
 Nothing is kept here that an answer is taken from: each is made from scratch, and beside it stands what a program that keeps its
 answers would hold, and how much of it would have to be made anew.
@@ -7,13 +7,13 @@ answers would hold, and how much of it would have to be made anew.
 - A segment is one window of a run: it is made anew where none is held that starts from the same state of the network and of
   which everything that it read is unchanged. A held one that serves has to be what is run now, else the count stops.
 
-Where more or less could be held, what counts fewer is taken: parts are let go at the next query, not at the edit; the plan says
-of a message with faults nothing but these, and of a clean one what its writes need; events of a window have no numbers; a device
-without power has no state; the store is cut to its capacity at the end of a trace."""
+Parts are let go at the next query, not at the edit; the plan says of a message with faults nothing but these, and of a clean one
+what its writes need; a window's events are what they come to; a device without power has no state; the store is cut to its
+capacity at the end of a trace."""
 from dataclasses import astuple, dataclass
 from typing import Dict, List, Optional
 
-from .bus import WINDOW, Bus, Image, Roster, controller_shape
+from .bus import WINDOW, Bus, Image, Roster
 from .messages import plan_of
 from .values import OF_VERSION_3, UNSIGNED8, UNSIGNED16, UNSIGNED32
 from .write_check import is_tpdo_object
@@ -21,7 +21,7 @@ from .writes import node_writes
 
 WINDOWS = 1_001                # of a run to the longest horizon
 CAPACITY = 2_048
-PARTS_OF_NODES = ("Defaults", "Shape", "Expect", "Writes", "DCF", "Concise")
+PARTS_OF_NODES = ("Node", "Writes", "DCF", "Concise")
 
 
 class Work:
@@ -96,25 +96,24 @@ class Parts:
         return self.bring(("Writes", node), inputs, lambda: node_writes(self.project, self.plan, node))
 
     def bring_image(self, plan):
-        """All that a run can read; the writes of a node are counted as one part."""
-        project, shapes = self.project, {}
+        """All that a run can read: of each node the values of its entries, the entries and its expected identity are one part, and
+        its writes one."""
+        project = self.project
         self.bring(("Roster",), Roster.of(project))
         for node in sorted(project.nodes):
-            device, writes, is_controller = self.bring_device(node), self.bring_writes(node, plan), node == project.controller()
-            self.bring(("Expect", node), device)
-            self.bring(("Defaults", node), (device, is_controller, writes if is_controller else None))
-            shapes[node] = self.bring(("Shape", node), (device, is_controller), lambda: shape_of(project, node))
-        windows = {}
-        for _, event in project.events_in_order():
-            windows.setdefault(event.time // WINDOW, []).append(event)
+            device, writes = self.bring_device(node), self.bring_writes(node, plan)
+            self.bring(("Node", node), (device, writes if node == project.controller() else None))
+        windows = windows_of(Image(project))
         for number in range(WINDOWS):
-            events = windows.get(number, [])
-            self.bring(("Events", number), (events, {event.node: shapes[event.node] for event in events if event.kind == "set"}))
+            self.bring(("Events", number), windows.get(number))
 
 
-def shape_of(project, node):
-    shape = project.sheet(node).shape(node)
-    return controller_shape(shape) if node == project.controller() else shape
+def windows_of(image):
+    """The steps of each window that has some."""
+    windows = {}
+    for step in image.steps:
+        windows.setdefault(step.time // WINDOW, []).append(step)
+    return windows
 
 
 def device_value(sheet):
@@ -163,9 +162,7 @@ class ImageParts:
 
     def __init__(self, project):
         self.image = Image(project)
-        self.windows = {}                              # the steps of each that has some
-        for step in self.image.steps:
-            self.windows.setdefault(step.time // WINDOW, []).append(step)
+        self.windows = windows_of(self.image)
 
     def value(self, part, *key):
         if part == "Roster":

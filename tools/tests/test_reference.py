@@ -62,7 +62,7 @@ def test_cobench_answers_generated_scripts_as_the_plain_program_does():
         words = real()
     except Skipped as why:
         raise Skipped(f"{why}; a cobench is needed to compare it with the plain program") from None
-    status, output = compare(words, "--seeds", "0:50")
+    status, output = compare(words, "--work", "--seeds", "0:50")
     assert status == 0 and output == b"200 equal, 0 different\n", output[-2000:]
 
 
