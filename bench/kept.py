@@ -6,6 +6,10 @@ each script twice, with the turns and without, and prints the difference for one
 
   files      `param 5` and `dcf 5`, 126 nodes of an EDS of 60,000 lines
   diag       `param 5` and `diag`, 126 nodes of a drive's EDS of 1,603 lines
+  sheet      the same with 126 nodes of examples/servo_drive.eds, whose defaults are formulas of the node where vendors
+             write them so
+  event      an event and `diag`, the same network
+  message    a message and `diag`, the same network
   elsewhere  `param 5` and `dcf 7`, the network of `files`
   dcf, cdcf, listed
              `dcf 5`, `cdcf 5` and `diag` again and again with no edit between; the node has 4,000 parameters,
@@ -26,6 +30,7 @@ from measured import session
 
 TURNS = 200
 NODES = 126
+MESSAGE = [b"message m 5 1 255 0 0 0", b"source m 1 6041 0", b"sink m 1 6 6040 0"]
 
 
 def big():
@@ -44,6 +49,13 @@ def drive():
         lines += [b"[%04X]" % (0x2000 + number), b"ParameterName=Value %d" % number, b"ObjectType=7",
                   b"DataType=0x0006", b"AccessType=rw", b"DefaultValue=0", b"LowLimit=0", b"HighLimit=60000"]
     return lines
+
+
+def example():
+    """The data sheet of the example, as a vendor writes it."""
+    path = os.path.join(os.path.dirname(os.path.abspath(__file__)), "..", "examples", "servo_drive.eds")
+    with open(path, "rb") as file:
+        return file.read().splitlines()
 
 
 def network(eds, nodes=NODES):
@@ -66,6 +78,10 @@ def scripts():
         ("files", network(big()) + [b"dcf 5"], lambda turn: [param(turn), b"dcf 5"]),
         ("elsewhere", network(big()) + [b"dcf 5", b"dcf 7"], lambda turn: [param(turn), b"dcf 7"]),
         ("diag", network(drive()) + [b"diag"], lambda turn: [param(turn), b"diag"]),
+        ("sheet", network(example()) + [b"diag"], lambda turn: [b"param 5 1017 0 %d" % (turn + 1), b"diag"]),
+        ("event", network(example()) + [b"diag"], lambda turn: [b"event 1 %d set 5 1017 0 9" % turn, b"diag"]),
+        ("message", network(example()) + MESSAGE + [b"diag"],
+         lambda turn: [b"message m 5 1 255 0 %d 0" % turn, b"diag"]),
     ]
 
 

@@ -10,4 +10,5 @@ pub mod Ranges
 pub mod Replies
 pub mod Steps
 pub mod Tables
+pub mod Unshared
 pub mod Words

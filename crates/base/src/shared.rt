@@ -1,6 +1,8 @@
 //! A value that several hold.
 ghost use Rattle.std.specs.Prelude.{◌≡◌, ◌⊎◌, IfOk};
 ghost use Rattle.std.specs.Option.{option_copied};
+ghost use Rattle.std.specs.Borrow.{sem};
+ghost use Rattle.base.specs.Unshared.{LendsUnshared};
 
 use std::alloc::{AllocError, Global};
 use std::marker::Model;
@@ -79,14 +81,18 @@ pub fn share_of<T: Drop>(value: Option<&Shared<T>>) -> Result<Option<Shared<T>>,
     }
 }
 
-/// Makes the value behind a handle its own, where others hold it too: it takes a copy then. Ask it ahead of
-/// `Rc::get_mut`: where no other holds the value, that costs nothing, and `Rc::make_mut` clears the room for a copy
-/// each time.
-pub fn unshare<T: Clone + Drop>(handle: &mut Rc<T>) -> Result<(), AllocError>
-    ensures kept { (handle.new.value ≡ handle.old.value) ⊎ T.is_clone handle.old.value handle.new.value }
+/// The value behind a handle, to be changed; where others hold it too, a copy of it takes its place first, and they
+/// keep theirs. Takes memory for that copy alone: where no other holds the value, this costs nothing, and
+/// `Rc::make_mut` clears the room for a copy each time.
+pub fn unshare<T: Clone + Drop>(handle: &mut Rc<T>) -> Result<&mut T, AllocError>
+    ensures* writes_back { sem 𝓛 (LendsUnshared T.row T.is_clone handle.entry result) }
+    ensures value { IfOk result (λ x. (x.now ≡ handle.old.value) ⊎ T.is_clone handle.old.value x.now) }
 {
-    if Rc::strong_count(handle) > 1 {
-        Rc::make_mut(handle)?;
+    if Rc::strong_count(handle) > 1 || Rc::weak_count(handle) > 0 {
+        return Rc::make_mut(handle);
     }
-    Ok(())
+    match Rc::get_mut(handle) {
+        Some(value) => Ok(value),
+        None => Err(AllocError),
+    }
 }

@@ -3,7 +3,7 @@
 ghost use Rattle.std.specs.Prelude.{◌≡◌, ◌↔◌, ◌<◌, ◌≤◌, ◌∷◌, [], List, false, length, option_copied, IfOk, IfSome, IsTrue, OnOk};
 ghost use Rattle.image_parts.specs.Record.{GoesBy, Lasts};
 ghost use Rattle.bus_devices.specs.Blocks.{AreEachOf, AreOutlooksOf, FollowsFromEach, IsBestOf, IsBlockOf, IsOutlookOf};
-ghost use Rattle.bus_devices.specs.Numbers.{device_of as first_of, values_of as first_values_of};
+ghost use Rattle.bus_devices.specs.Numbers.{values_of as first_values_of};
 ghost use Rattle.bus_devices.specs.Senders.{contends_with as contends, device_lists, is_contender, sender_place};
 ghost use Rattle.image_parts.specs.Each.{each};
 ghost use Rattle.can_frame.specs.Winner.{contenders, IsWinner};
@@ -30,7 +30,8 @@ pub(crate) const BLOCK: usize = 8;
 pub(crate) struct Block {
     /// What is known of all of them.
     pub outlook: Outlook,
-    /// The low bytes of frames that may be something to one of them: more as they run, till blocks are planned anew.
+    /// The low bytes of frames that may be something to one of them: more as they run, till one has run that was awake,
+    /// or blocks are planned anew.
     pub low_bytes: LowBytes,
     /// What is known of each, in their order; what stands behind those of the devices is of none.
     pub each: [Outlook; BLOCK],
@@ -76,7 +77,7 @@ pub(crate) fn outlook_of(each: &[Outlook], count: usize) -> Outlook
 }
 
 /// The low bytes of the identifiers of frames that may be something to one of the devices. Walks them.
-fn low_bytes_of(devices: &[ScheduledDevice]) -> LowBytes
+pub(crate) fn low_bytes_of(devices: &[ScheduledDevice]) -> LowBytes
     ensures { AreDeafBeyond result devices.now }
 {
     let mut low_bytes = LowBytes::none();
@@ -231,17 +232,10 @@ pub(crate) fn place_by_each(
     None
 }
 
-/// The first device of a number. Walks them.
-fn device_of(node: u8, devices: &[ScheduledDevice]) -> Option<&ScheduledDevice>
-    ensures { option_copied result ≡ first_of node devices.now }
-{
-    devices.iter().find(|device| device.number() == node)
-}
-
 /// The values of the first device of a number. Walks the devices.
 pub(crate) fn values_of(node: u8, devices: &[ScheduledDevice]) -> Option<&Dict>
     ensures { option_copied result ≡ first_values_of node devices.now }
 {
-    let device = device_of(node, devices)?;
+    let device = devices.iter().find(|device| device.number() == node)?;
     Some(device.values())
 }

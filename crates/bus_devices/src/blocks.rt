@@ -11,7 +11,7 @@ ghost use Rattle.can_frame.specs.Winner.{contenders, IsWinner};
 ghost use Rattle.co_device.specs.Device.{Device};
 ghost use Rattle.device_agenda.specs.Agenda.{at_instant};
 
-use crate::block::{BLOCK, Block, best_of_each, outlook_of, place_by_each, run_each};
+use crate::block::{BLOCK, Block, best_of_each, low_bytes_of, outlook_of, place_by_each, run_each};
 use crate::outlook::keep_lower;
 use can_frame::Contender;
 use device_agenda::{Delivery, ScheduledDevice};
@@ -40,8 +40,9 @@ pub(crate) fn plan(blocks: &mut Vec<Block>, devices: &[ScheduledDevice]) -> Resu
     Ok(())
 }
 
-/// Runs those of the devices of a block that have to run, and where another thing is known of one then, puts together
-/// anew what is known of all of them. Says whether that is another.
+/// Runs those of the devices of a block that have to run. Their low bytes are worked out anew where one was awake, whose
+/// own were all; and where another thing is known of one then, what is known of all of them is put together anew. Says
+/// whether that is another.
 fn run_block<P: Shapes>(
     block: &mut Block,
     devices: &mut [ScheduledDevice],
@@ -58,6 +59,7 @@ fn run_block<P: Shapes>(
     ensures lasts { Lasts (P.seen shapes.old) (P.seen shapes.new) }
     ensures still { IfOk result (λ changed. changed ≡ false ↔ (block.new.outlook ≡ block.old.outlook)) }
 {
+    let was_awake = block.outlook.alarm.agenda().awake;
     let changed = run_each(
         devices,
         &mut block.each,
@@ -66,6 +68,9 @@ fn run_block<P: Shapes>(
         delivery,
         shapes,
     )?;
+    if was_awake {
+        block.low_bytes = low_bytes_of(devices);
+    }
     if !changed {
         return Ok(false);
     }

@@ -128,7 +128,7 @@ impl Devices {
     }
 
     /// What tells them from others: a place at which `differ_at` does, if there is one. Looks at each of them up to
-    /// that place, at the fingerprints of their values first; where none is told so, compares them by value.
+    /// that place, at what is told in constant time first; where none is told so, compares them by value.
     pub fn tell_apart(&self, other: &Devices) -> Apart
         ensures { TellsApart result self.now other.now }
     {

@@ -9,6 +9,7 @@ ghost use Rattle.bus_devices.specs.Steps.{AreFree};
 ghost use Rattle.image_parts.specs.Images.{IsFree};
 ghost use Rattle.cia301.specs.PdoObjects.{is_of_pdos};
 
+use base::{Octets, Shared};
 use co_scenario::{Step, TimedStep};
 use device_agenda::ScheduledDevice;
 use device_objects::Shapes;
@@ -23,7 +24,7 @@ fn set_one(
     t: u64,
     node: u8,
     place: (u16, u8),
-    bytes: &[u8],
+    bytes: &Shared<Octets>,
 ) -> Result<(), AllocError>
     requires soon { t < END }
     requires short { length bytes.now ≤ 512 }
@@ -42,7 +43,7 @@ fn set_each(
     t: u64,
     node: u8,
     place: (u16, u8),
-    bytes: &[u8],
+    bytes: &Shared<Octets>,
 ) -> Result<(), AllocError>
     requires soon { t < END }
     requires short { length bytes.now ≤ 512 }
@@ -119,7 +120,7 @@ fn happen<P: Shapes>(
             index,
             sub,
             bytes,
-        } => set_each(devices, t, *node, (*index, *sub), bytes.as_slice()),
+        } => set_each(devices, t, *node, (*index, *sub), bytes),
         Step::Power { node, on } => power_each(devices, t, *node, *on, shapes),
         Step::Nmt { node, command } => manager.command(*command, *node),
     }

@@ -52,12 +52,12 @@ pub(crate) fn differ_at(
     }
 }
 
-/// Whether the values of a place's devices are told apart at once.
-fn values_differ_at(devices: &[ScheduledDevice], others: &[ScheduledDevice], place: usize) -> bool
+/// Whether the devices of a place are told apart in constant time.
+fn looks_differ_at(devices: &[ScheduledDevice], others: &[ScheduledDevice], place: usize) -> bool
     ensures { IsTrue result → slice_get devices.now place ≡ slice_get others.now place → ⊥ }
 {
     match (devices.get(place), others.get(place)) {
-        (Some(device), Some(other)) => !device.values().may_be(other.values()),
+        (Some(device), Some(other)) => !device.looks_like(other),
         _ => false,
     }
 }
@@ -65,9 +65,9 @@ fn values_differ_at(devices: &[ScheduledDevice], others: &[ScheduledDevice], pla
 /// How closely two devices are looked at, ahead of a comparison by value.
 #[derive(Clone, Copy)]
 enum Look {
-    /// At the fingerprints of their values alone.
-    Values,
-    /// At all that a quick look sees.
+    /// At what is told in constant time: the fingerprints of their values, their states, when they are due.
+    Glance,
+    /// At all that a quick look sees, their PDOs too.
     All,
 }
 
@@ -81,7 +81,7 @@ fn look_differs(
     ensures { IsTrue result → slice_get devices.now place ≡ slice_get others.now place → ⊥ }
 {
     match look {
-        Look::Values => values_differ_at(devices, others, place),
+        Look::Glance => looks_differ_at(devices, others, place),
         Look::All => differ_at(devices, others, place),
     }
 }
@@ -103,7 +103,7 @@ fn first_apart(look: Look, devices: &[ScheduledDevice], others: &[ScheduledDevic
 fn place_apart(devices: &[ScheduledDevice], others: &[ScheduledDevice]) -> Option<usize>
     ensures { IfSome result (λ place. slice_get devices.now place ≡ slice_get others.now place → ⊥) }
 {
-    match first_apart(Look::Values, devices, others) {
+    match first_apart(Look::Glance, devices, others) {
         Some(place) => Some(place),
         None => first_apart(Look::All, devices, others),
     }
@@ -122,8 +122,8 @@ fn same_each(devices: &[ScheduledDevice], others: &[ScheduledDevice]) -> bool
     true
 }
 
-/// What tells the devices of two lists apart. Looks at the fingerprint of the values of each first, then at each of
-/// them quickly, before it compares one by value; lists of other lengths are told apart by these.
+/// What tells the devices of two lists apart. Looks at each of them in constant time first, then quickly at all of each,
+/// before it compares one by value; lists of other lengths are told apart by these.
 pub(crate) fn tell_apart(devices: &[ScheduledDevice], others: &[ScheduledDevice]) -> Apart
     ensures { TellsApart result devices.now others.now }
 {

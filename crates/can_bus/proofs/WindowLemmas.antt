@@ -16,7 +16,7 @@ use Rattle.bus_devices.specs.Events.{after_events_at}
 use Rattle.bus_devices.specs.Steps.{AreFree, in_window, steps_due, steps_left}
 use Rattle.co_device.specs.Device.{Device}
 use Rattle.image_parts.specs.Contents.{Content, Image}
-use Rattle.image_parts.specs.Images.{IsWithin}
+use Rattle.image_parts.specs.Images.{AreInOrder, IsWithin}
 use Rattle.image_parts.specs.Shared.{value_behind}
 use Rattle.image_parts.specs.declared.part.Part.{Part}
 use Rattle.co_scenario.specs.declared.timed_step.TimedStep.{TimedStep}
@@ -28,6 +28,12 @@ pub free_window : {Z : Type 0} (i : ℕ) (window : Option (Rc (List TimedStep) Z
     → IfSome (value_behind window) (AllByRecursion (IsWithin i)) → AreFree (in_window window)
 free_window i None h = tt
 free_window i (Some window) h = free_within i window.value h
+
+-- and they are in order
+pub window_in_order : {Z : Type 0} (window : Option (Rc (List TimedStep) Z)) → IfSome (value_behind window) AreInOrder
+    → AreInOrder (in_window window)
+window_in_order None h = tt
+window_in_order (Some window) h = h
 
 not_empty : (n : ℕ) → (suc n == 0) ≡ false
 not_empty n = grind (arith, nat_tests)

@@ -4,8 +4,8 @@ ghost use Rattle.std.specs.Prelude.{◌≡◌, ◌≤◌, ◌↔◌, [], length,
 ghost use Rattle.std.specs.List.{prefix_len};
 ghost use Rattle.base.specs.Moments.{earliest};
 ghost use Rattle.bus_devices.specs.Steps.{has_time, in_window, steps_due, steps_left as are_left, times, AreFree};
+ghost use Rattle.image_parts.specs.Images.{AreInOrder};
 
-use base::earlier;
 use co_scenario::{TimedStep, same_steps};
 use image_parts::Window;
 use std::alloc::AllocError;
@@ -17,13 +17,12 @@ use std::rc::Rc;
 pub(crate) struct StepsLeft {
     window: Option<Rc<Window>>,
     next: usize,
-    first: Option<u64>,
 }
 
 impl Model for StepsLeft {
     ghost use Rattle.std.specs.Prelude.{◌≡◌, ◌≤◌, List, drop, length};
-    ghost use Rattle.bus_devices.specs.Steps.{in_window, times, AreFree};
-    ghost use Rattle.base.specs.Moments.{earliest};
+    ghost use Rattle.bus_devices.specs.Steps.{in_window, AreFree};
+    ghost use Rattle.image_parts.specs.Images.{AreInOrder};
     ghost use Rattle.co_scenario.specs.declared.timed_step.TimedStep.{TimedStep};
 
     ghost Value = { List TimedStep };
@@ -31,7 +30,7 @@ impl Model for StepsLeft {
     ghost view = { λ steps. drop steps.next (in_window steps.window) };
 
     ghost invariant = { λ steps. (steps.next ≤ length (in_window steps.window)) × AreFree (in_window steps.window)
-        × (steps.first ≡ earliest (times (drop steps.next (in_window steps.window)))) };
+        × AreInOrder (in_window steps.window) };
 }
 
 /// The events of a window; none where it is absent.
@@ -55,17 +54,6 @@ fn count_at(steps: &[TimedStep], t: u64) -> usize
         .count()
 }
 
-/// The first of the times of events. Walks them.
-fn first_of(steps: &[TimedStep]) -> Option<u64>
-    ensures { result ≡ earliest (times steps.now) }
-{
-    let mut first = None;
-    for step in steps {
-        first = earlier(first, Some(u64::from(step.time)));
-    }
-    first
-}
-
 impl StepsLeft {
     /// No events. Takes no memory.
     pub fn none() -> StepsLeft
@@ -74,36 +62,34 @@ impl StepsLeft {
         StepsLeft {
             window: None,
             next: 0,
-            first: None,
         }
     }
 
     /// The events of a window; none where it is absent.
     pub fn of_window(window: Option<Rc<Window>>) -> StepsLeft
-        requires { AreFree (in_window window) }
+        requires free { AreFree (in_window window) }
+        requires order { AreInOrder (in_window window) }
         ensures { result ≡ in_window window }
     {
-        let first = first_of(steps_of(&window));
-        StepsLeft {
-            window,
-            next: 0,
-            first,
-        }
+        StepsLeft { window, next: 0 }
     }
 
     /// The events.
     pub fn as_slice(&self) -> &[TimedStep]
         ensures steps { result.now ≡ self.now }
         ensures free { AreFree result.now }
+        ensures order { AreInOrder result.now }
     {
         &steps_of(&self.window)[self.next..]
     }
 
-    /// The first of their times, in microseconds, if one is left. Takes constant time.
+    /// The first of their times, in microseconds, if one is left: that of the first event. Takes constant time.
+    #[tactic(auto, using(crate::proofs::FirstTimeLemmas::none_left, crate::proofs::FirstTimeLemmas::first_left))]
     pub fn first(&self) -> Option<u64>
         ensures { result ≡ earliest (times self.now) }
     {
-        self.first
+        let step = self.as_slice().first()?;
+        Some(u64::from(step.time))
     }
 
     /// The events that are due at the moment t: those at the front that have this time. Takes time by their
@@ -117,18 +103,13 @@ impl StepsLeft {
         &steps[..count_at(steps, t)]
     }
 
-    /// Forgets the events that are due at the moment t. Takes time by the number of those that are left, where
-    /// one is due.
+    /// Forgets the events that are due at the moment t. Takes time by their number.
     #[tactic(auto, unfolding(bus_devices::specs::Steps::steps_left))]
     pub fn forget(&mut self, t: u64)
         ensures { self.new ≡ are_left t self.old }
     {
         let steps = steps_of(&self.window);
-        let count = count_at(&steps[self.next..], t);
-        if count > 0 {
-            self.next += count;
-            self.first = first_of(&steps[self.next..]);
-        }
+        self.next += count_at(&steps[self.next..], t);
     }
 
     /// Equal events. Takes no memory.
@@ -142,7 +123,6 @@ impl StepsLeft {
         Ok(StepsLeft {
             window,
             next: self.next,
-            first: self.first,
         })
     }
 

@@ -13,7 +13,7 @@ use std::alloc::AllocError;
 use std::mem::replace;
 
 /// Asks for the events of the window that starts at the moment t, if one does.
-#[tactic(auto, using(crate::proofs::WindowLemmas::free_window), unfolding(crate::specs::Bus::after_window_start))]
+#[tactic(auto, using(crate::proofs::WindowLemmas::free_window, crate::proofs::WindowLemmas::window_in_order), unfolding(crate::specs::Bus::after_window_start))]
 pub(crate) fn begin_window<P: Parts>(
     bus: &mut BusState,
     t: u64,

@@ -1,8 +1,11 @@
 pub mod ContenderLemmas
+pub mod FrameBitLemmas
 pub mod LeastLemmas
 pub mod OrderLemmas
 pub mod PurposeLemmas
 pub mod ReplacedLemmas
+pub mod SentLemmas
 pub mod StoredLemmas
 pub mod TraceLemmas
 pub mod WinnerLemmas
+pub mod WireLemmas

@@ -131,11 +131,11 @@ spaced_more s bytes digits i long short below is here =
 
 -- ---- the parts of two equal lines
 
-fronts : (a b c d : List ℕ) → length a ≡ length c → a ++ b ≡ c ++ d → a ≡ c
+pub fronts : (a b c d : List ℕ) → length a ≡ length c → a ++ b ≡ c ++ d → a ≡ c
 fronts a b c d n e = sym (take-append_seam a b) ∙ ap (take (length a)) e ∙ ap (λ k. take k (c ++ d)) n
     ∙ take-append_seam c d
 
-behind : (a b c d : List ℕ) → length a ≡ length c → a ++ b ≡ c ++ d → b ≡ d
+pub behind : (a b c d : List ℕ) → length a ≡ length c → a ++ b ≡ c ++ d → b ≡ d
 behind a b c d n e = sym (drop-append_seam a b) ∙ ap (drop (length a)) e ∙ ap (λ k. drop k (c ++ d)) n
     ∙ drop-append_seam c d
 

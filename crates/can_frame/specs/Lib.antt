@@ -3,6 +3,8 @@ pub mod Frames
 pub mod Identifiers
 pub mod Least
 pub mod NmtMessages
+pub mod Sent
 pub mod TraceLines
 pub mod WaitingFrames
 pub mod Winner
+pub mod WireBits

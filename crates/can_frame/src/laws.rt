@@ -1,12 +1,13 @@
 //! Laws of waiting frames and of who wins, each a function whose contract is the law.
 ghost use Rattle.std.specs.Prelude.{◌≡◌, ◌^◌, ◌<◌, ◌≤◌, ◌++◌, ◌∷◌, [], ◌⊎◌, ◌↔◌, ℕ, true, false, List, Contains};
-ghost use Rattle.std.specs.Prelude.{Option, Some, None};
+ghost use Rattle.std.specs.Prelude.{Option, Some, None, ◌+◌, ◌*◌, ◌/◌, length, replicate};
 ghost use Rattle.can_frame.specs.declared.contender.Contender.{Contender as Bid};
 ghost use Rattle.can_frame.specs.declared.purpose.Purpose.{Purpose as Use};
 ghost use Rattle.can_frame.specs.declared.waiting.Waiting.{Waiting as Queued};
 ghost use Rattle.can_frame.specs.Frames.{bit_time, BaseFrame, IsFrame};
 ghost use Rattle.can_frame.specs.TraceLines.{frame_line};
 ghost use Rattle.can_frame.specs.WaitingFrames.{is_same, with_latest, waiting, waits_for};
+ghost use Rattle.can_frame.specs.WireBits.{exact_bits, plain_bits, unstuffed, wire_bits};
 ghost use Rattle.can_frame.specs.Winner.{contenders, lower, winner_of, IsWinner, WaitsAt};
 
 /// Each frame that waits contends, and no other.
@@ -69,4 +70,27 @@ pub fn bits_last()
 pub fn a_line_is_of_one_frame()
     ensures { (time other : ℕ) (f g : BaseFrame) → time < 10 ^ 10 → other < 10 ^ 10 → IsFrame f → IsFrame g
         → frame_line time f ≡ frame_line other g → (time ≡ other) × (f ≡ g) }
+{}
+
+/// A frame of n bytes takes 47 + 8n bit times, and at most one stuff bit for each four of the 33 + 8n
+/// bits behind its first.
+#[tactic(auto, using(crate::proofs::FrameBitLemmas::bit_laws))]
+pub fn a_frame_has_few_stuff_bits()
+    ensures least { (frame : BaseFrame) → 47 + 8 * length frame.bytes ≤ exact_bits frame }
+    ensures most { (frame : BaseFrame)
+        → exact_bits frame ≤ 47 + 8 * length frame.bytes + (33 + 8 * length frame.bytes) / 4 }
+{}
+
+/// No six equal bits of a frame stand in a row on the wire.
+#[tactic(auto, using(crate::proofs::FrameBitLemmas::bit_laws))]
+pub fn six_equal_bits_stand_nowhere()
+    ensures { (frame : BaseFrame) (bit : ℕ) (front behind : List ℕ)
+        → ¬ (wire_bits frame ≡ front ++ (replicate 6 bit ++ behind)) }
+{}
+
+/// Without the stuff bits the bits of a frame are there again, and they are of one frame.
+#[tactic(auto, using(crate::proofs::FrameBitLemmas::bit_laws))]
+pub fn the_bits_on_the_wire_are_of_one_frame()
+    ensures again { (frame : BaseFrame) → unstuffed (wire_bits frame) ≡ plain_bits frame }
+    ensures alone { (f g : BaseFrame) → IsFrame f → IsFrame g → wire_bits f ≡ wire_bits g → f ≡ g }
 {}

@@ -13,6 +13,7 @@ mod trace_line;
 mod unwanted;
 mod waiting;
 mod walks;
+mod wire;
 
 pub use arbitration::winner;
 pub use contender::Contender;
@@ -23,3 +24,4 @@ pub use slots::{bit_time, slot_bits, slot_time};
 pub use trace_line::{line, write_line, write_time};
 pub use unwanted::Unwanted;
 pub use waiting::Waiting;
+pub use wire::exact_bits;

@@ -6,7 +6,7 @@ use crate::shown::{show_device, show_frame, show_left, show_manager, show_notes,
 use crate::step::Step;
 use crate::taken::{take_of_device, take_of_manager};
 use anyhow::Result;
-use base::Octets;
+use base::{Octets, Shared};
 use can_frame::{Frame, Waiting};
 use cia301::is_of_pdos;
 use co_device::Device;
@@ -103,6 +103,7 @@ fn show_taken<W: Write>(out: &mut W, taken: Option<Waiting>) -> Result<()> {
 
 /// The application sets an entry, unless that is one of a PDO, or the value or the moment isn't one.
 fn set_own(
+    alloc: Global,
     device: &mut Device,
     t: u64,
     index: u16,
@@ -112,13 +113,15 @@ fn set_own(
     if t >= END || bytes.len() > 512 || is_of_pdos(index) {
         return Ok(());
     }
-    device.set(t, index, sub, bytes)
+    let bytes = Octets::from_slice(alloc, bytes)?;
+    let bytes = Shared::new(alloc, bytes)?;
+    device.set(t, index, sub, &bytes)
 }
 
 /// The application sets the entry that a step names, if it names one.
-fn set(device: &mut Device, step: &Step) -> Result<(), AllocError> {
+fn set(alloc: Global, device: &mut Device, step: &Step) -> Result<(), AllocError> {
     match step.place() {
-        Some((index, sub)) => set_own(device, step.time, index, sub, &step.data),
+        Some((index, sub)) => set_own(alloc, device, step.time, index, sub, &step.data),
         None => Ok(()),
     }
 }
@@ -213,7 +216,7 @@ impl Bench {
             "on" => self.switch(true, step.time)?,
             "off" => self.switch(false, step.time)?,
             "anew" => self.begin_anew(step.time)?,
-            "set" => set(&mut self.device, step)?,
+            "set" => set(self.alloc, &mut self.device, step)?,
             "sends" => show_taken(out, take_of_device(&mut self.device, true))?,
             _ => self.play_frame(out, word, step)?,
         }

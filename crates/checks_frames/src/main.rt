@@ -14,18 +14,22 @@ mod shown;
 
 use anyhow::Result;
 use asked::{Asked, ask};
-use can_frame::{Frame, line, slot_bits, slot_time};
+use can_frame::{Frame, exact_bits, line, slot_bits, slot_time};
 use sheets::device;
 use std::io;
 use std::io::Write;
 
 /// Identifiers and bytes, the last two of no frame.
-const FRAMES: [(u16, &[u8]); 7] = [
+const FRAMES: [(u16, &[u8]); 11] = [
     (0x000, &[0x01, 0x05]),
     (0x080, &[]),
     (0x185, &[0x09, 0x34, 0x12]),
     (0x605, &[0x2B, 0x17, 0x10, 0x00, 0x64, 0x00, 0x00, 0x00]),
     (0x7FF, &[0xFF]),
+    (0x000, &[0; 8]),
+    (0x7FF, &[0xFF; 8]),
+    (0x07C, &[0x1F, 0x07, 0xC1, 0xF0]),
+    (0x2AA, &[0x3C; 8]),
     (0x800, &[]),
     (0x001, &[0; 9]),
 ];
@@ -33,16 +37,16 @@ const FRAMES: [(u16, &[u8]); 7] = [
 /// Bit rates in kbit/s.
 const RATES: [u16; 7] = [10, 20, 50, 125, 250, 500, 1000];
 
-/// Prints the slot of a frame in bits, and in microseconds at each bit rate.
+/// Prints the slot of a frame in bits, with its stuff bits, and without them in microseconds at each bit rate.
 fn show_slot(rt: &HostRuntime, frame: &Frame) -> io::Result<()> {
-    print!(rt; " bits {} us", slot_bits(frame))?;
+    print!(rt; " bits {} exact {} us", slot_bits(frame), exact_bits(frame))?;
     for rate in &RATES {
         print!(rt; " {}", slot_time(*rate, frame))?;
     }
     println!(rt; "")
 }
 
-/// Prints a frame at a time, its slot in bits, and in microseconds at each bit rate.
+/// Prints a frame at a time, and its slot.
 fn show(rt: &HostRuntime, time: u32, frame: &Frame) -> io::Result<()> {
     let text = line(rt.alloc(), time, frame)?;
     rt.stdout().write_all(&text)?;

@@ -1,7 +1,8 @@
 //! The calls of a workbench.
 
 use can_bus::text;
-use co_project::{Command, EditFault, Request};
+use co_project::{Command, EditFault};
+use script_commands::Request;
 use std::alloc::Global;
 use workbench::Workbench;
 

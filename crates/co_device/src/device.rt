@@ -10,7 +10,7 @@ ghost use Rattle.co_device.specs.Device.{without_power};
 ghost use Rattle.co_device.specs.Receiving.{after_frame};
 ghost use Rattle.cia301.specs.PdoObjects.{is_of_pdos};
 
-use base::earlier;
+use base::{Octets, Shared, earlier};
 use can_frame::{Contender, Frame, Pending, Waiting};
 use cia301::NmtState;
 use co_dict::Dict;
@@ -151,6 +151,14 @@ impl Device {
             && same_rpdos(&self.rpdos, &other.rpdos)
             && same_tpdos(&self.tpdos, &other.tpdos)
             && self.waiting.same(&other.waiting)
+    }
+
+    /// Whether the other device looks the same, by the fingerprints of the values and by all but lists and transfer.
+    /// Takes constant time.
+    pub fn looks_like(&self, other: &Device) -> bool
+        ensures { self.now ≡ other.now → IsTrue result }
+    {
+        self.values.may_be(&other.values) && self.is_like(other)
     }
 
     /// Whether the other device may be the same: a quick look ahead of `same`, which leaves the values to their
@@ -301,8 +309,15 @@ impl Device {
     }
 
     /// The application of the device sets an entry at the moment t, whatever its access and limits; without
-    /// power nothing happens. The index isn't one of 1400h to 1BFFh, and the value has at most 512 bytes.
-    pub fn set(&mut self, t: u64, index: u16, sub: u8, bytes: &[u8]) -> Result<(), AllocError>
+    /// power nothing happens. The index isn't one of 1400h to 1BFFh, and the value has at most 512 bytes; one of more
+    /// than eight is shared.
+    pub fn set(
+        &mut self,
+        t: u64,
+        index: u16,
+        sub: u8,
+        bytes: &Shared<Octets>,
+    ) -> Result<(), AllocError>
         requires soon { t < END }
         requires own { is_of_pdos index ≡ false }
         requires short { length bytes.now ≤ longest_value }

@@ -7,6 +7,7 @@ ghost use Rattle.co_device.specs.Device.{after_own_write, after_write, after_wri
 ghost use Rattle.co_device.specs.Device.{is_producer_time as is_of_producer, after_set, without_error_if};
 
 use crate::device::Device;
+use base::{Octets, Shared};
 use cia301::{is_of_rpdos, is_of_tpdos};
 use co_dict::Shape;
 use device_objects::{any_failed, clear_error, forget, next_heartbeat};
@@ -100,7 +101,7 @@ impl Device {
         t: u64,
         index: u16,
         sub: u8,
-        bytes: &[u8],
+        bytes: &Shared<Octets>,
     ) -> Result<(), AllocError>
         requires soon { t < END }
         requires short { length bytes.now ≤ longest_value }
@@ -109,7 +110,7 @@ impl Device {
         if !self.has_power {
             return Ok(());
         }
-        self.values.write(index, sub, bytes)?;
+        self.values.write_shared(index, sub, bytes)?;
         self.after_own_write(t, (index, sub))
     }
 }

@@ -18,3 +18,4 @@ pub mod SetFound
 pub mod DoubtLemmas
 pub mod MetLemmas
 pub mod SheetLemmas
+pub mod AloneLemmas

@@ -8,12 +8,12 @@ use Rattle.std.specs.Option.{option_map_or}
 use Rattle.std.proofs.lemmas.Cmp.{nat_list_cmp_total}
 use Rattle.std.proofs.lemmas.List.Elements.{All-head, All-tail}
 use Rattle.std.proofs.lemmas.Map.Lookups.{exact_bytes}
-use Rattle.ini_text.specs.Content.{content_of}
+use Rattle.ini_text.specs.Content.{Content as DataSheet, content_of}
 use Rattle.base.proofs.EachLemmas.{all_entries, each_there}
 use Rattle.co_project.specs.declared.node.Node.{Node}
 use Rattle.co_project.specs.Project.{Content}
 use Rattle.co_project.specs.Tables.{text_at}
-use Rattle.project_plan.specs.Network.{Member, member_by, member_of, members}
+use Rattle.project_plan.specs.Network.{Member, device_at, member_by, member_of, members}
 use Rattle.co_diag.specs.Devices.{lines_at, of_node}
 use Rattle.co_diag.specs.Found.{lines_of, skipped_lines}
 
@@ -73,3 +73,11 @@ module _ {X : Type 0} (f : ℕ × Member → List X) (p : Content) where
   pub all_members : flat_map (of_node f p) (entries p.nodes) ≡ flat_map f (members p)
   unfolding members
   all_members = members_among (entries p.nodes)
+
+-- what is found of a member is that of its node, where the node has that device
+pub found_there : {X : Type 0} (f : ℕ × Member → List X) (p : Content) (e : ℕ × Node) (device : DataSheet)
+    (found : ℕ × Member) (old new : List X) → device_at p e.1.eds ≡ Some device → found ≡ member_of e.0 e.1 device
+    → new ≡ old ++ f found → new ≡ old ++ of_node f p e
+found_there f p e device found old new there is now =
+    now ∙ ap (λ m. old ++ f m) is
+    ∙ sym (ap (λ o. old ++ option_map_or (λ d. f (member_of e.0 e.1 d)) o []) there)

@@ -4,5 +4,6 @@ pub mod Holds
 pub mod Found
 pub mod Devices
 pub mod Kept
+pub mod Alone
 pub mod Counts
 pub mod Sheets

@@ -1,5 +1,5 @@
 //! The unreadable defaults of a node's device, put at the end of what was found.
-ghost use Rattle.std.specs.Prelude.{◌≡◌, ◌++◌, OnOk, IfOk, filter_map};
+ghost use Rattle.std.specs.Prelude.{◌≡◌, ◌++◌, OnOk, filter_map};
 ghost use Rattle.co_diag.specs.Found.{unreadable_default};
 ghost use Rattle.project_plan.specs.Network.{member_of};
 
@@ -7,37 +7,27 @@ use co_project::Node;
 use diag_lines::{Code, Diag, Subject};
 use eds_device::DataSheet;
 use project_plan::spells_none;
-use std::alloc::{AllocError, Global};
+use std::alloc::AllocError;
 
 /// What is said of the default of an entry.
 #[tactic(auto, unfolding(crate::specs::Found::unreadable_default))]
-fn unreadable_default(
-    alloc: Global,
-    id: u8,
-    node: &Node,
-    device: &DataSheet,
-    index: u16,
-    sub: u8,
-) -> Result<Option<Diag>, AllocError>
-    ensures { IfOk result (λ diag. diag ≡ unreadable_default (member_of id node.now device.now) (index, sub)) }
+fn unreadable_default(id: u8, node: &Node, device: &DataSheet, index: u16, sub: u8) -> Option<Diag>
+    ensures { result ≡ unreadable_default (member_of id node.now device.now) (index, sub) }
 {
     let _ = node;
-    let Some(text) = device.default_text(index, sub) else {
-        return Ok(None);
-    };
-    if !spells_none(alloc, id, text, device.kind(index, sub))? {
-        return Ok(None);
+    let (text, kind) = device.default_given(index, sub)?;
+    if !spells_none(id, &text, kind) {
+        return None;
     }
-    Ok(Some(Diag {
+    Some(Diag {
         code: Code::Unreadable,
         subject: Subject::Default(id, index, sub),
-    }))
+    })
 }
 
 /// Finds the unreadable defaults at places of a node's device.
 pub(crate) fn find_unreadable(
     found: &mut Vec<Diag>,
-    alloc: Global,
     id: u8,
     node: &Node,
     device: &DataSheet,
@@ -47,7 +37,7 @@ pub(crate) fn find_unreadable(
         ++ filter_map (unreadable_default (member_of id node.now device.now)) places.now) }
 {
     for place in places {
-        if let Some(diag) = unreadable_default(alloc, id, node, device, place.0, place.1)? {
+        if let Some(diag) = unreadable_default(id, node, device, place.0, place.1) {
             found.push(diag)?;
         }
     }

@@ -2,16 +2,19 @@
 ghost use Rattle.std.specs.Prelude.{◌≡◌, ◌++◌, IfOk, OnOk};
 ghost use Rattle.project_plan.specs.Network.{plan_of_project};
 ghost use Rattle.co_diag.specs.Devices.{AreAllRead};
-ghost use Rattle.co_diag.specs.Found.{diagnostics_of, other_counters, shared_identifiers, unfit_consumers};
+ghost use Rattle.co_diag.specs.Found.{consumers, counters, diagnostics_of, identifiers, other_counters};
+ghost use Rattle.co_diag.specs.Found.{shared_identifiers, unfit_consumers};
+ghost use Rattle.co_diag.specs.Kept.{times};
 ghost use Rattle.co_diag.specs.Sheets.{diagnostics_met};
 
 use crate::consumers::find_unfit_consumers;
 use crate::counters::find_other_counters;
 use crate::devices::read_all;
 use crate::events::find_unfit_events;
-use crate::kept::keep_all;
+use crate::gathering::{add_copies, gather_nodes};
+use crate::kept::Kept;
 use crate::messages::{find_message_faults, find_warnings};
-use crate::nodes::find_of_nodes;
+use crate::nodes_found::NodesFound;
 use crate::shared::find_shared;
 use crate::texts::find_skipped_lines;
 use co_project::Project;
@@ -20,35 +23,41 @@ use pdo_plan::Plan;
 use project_plan::Library;
 use std::alloc::{AllocError, Global};
 
-/// Finds what is wrong with the nodes once they are configured.
+/// Finds what is wrong with the nodes once they are configured, by what is kept of them then.
 fn find_of_configured(
     found: &mut Vec<Diag>,
-    alloc: Global,
-    library: &Library<'_>,
-    plan: &Plan,
+    project: &Project,
+    kept: &Kept,
 ) -> Result<(), AllocError>
-    requires read { AreAllRead library.now }
-    requires plan { plan.now ≡ plan_of_project library.now.project }
-    ensures { OnOk result (found.new.items ≡ found.old.items ++ unfit_consumers library.now.project
-        ++ shared_identifiers library.now.project ++ other_counters library.now.project) }
+    requires identifiers { kept.now.identifiers.items ≡ identifiers project.now }
+    requires consumers { kept.now.consumers.items ≡ consumers project.now }
+    requires times { kept.now.times.items ≡ times project.now }
+    requires counters { kept.now.counters.items ≡ counters project.now }
+    ensures { OnOk result (found.new.items ≡ found.old.items ++ unfit_consumers project.now
+        ++ shared_identifiers project.now ++ other_counters project.now) }
 {
-    let kept = keep_all(alloc, library, plan)?;
-    find_unfit_consumers(found, library.project(), &kept.times, &kept.consumers)?;
+    find_unfit_consumers(found, project, &kept.times, &kept.consumers)?;
     find_shared(found, &kept.identifiers)?;
-    find_other_counters(found, library.project(), &kept.counters)?;
+    find_other_counters(found, project, &kept.counters)?;
     Ok(())
 }
 
 /// Finds all that is wrong.
 #[tactic(auto, unfolding(crate::specs::Sheets::diagnostics_met))]
-fn find_all(alloc: Global, library: &Library<'_>, plan: &Plan) -> Result<Vec<Diag>, AllocError>
+fn find_all(
+    alloc: Global,
+    library: &Library<'_>,
+    plan: &Plan,
+    nodes: &mut NodesFound,
+) -> Result<Vec<Diag>, AllocError>
     requires read { AreAllRead library.now }
     requires plan { plan.now ≡ plan_of_project library.now.project }
     ensures { IfOk result (λ list. list.items ≡ diagnostics_met library.now.project) }
 {
     let mut list = Vec::new(alloc);
-    find_of_nodes(&mut list, alloc, library)?;
-    find_of_configured(&mut list, alloc, library, plan)?;
+    let gathered = gather_nodes(&mut list, alloc, library, plan, nodes)?;
+    add_copies(&mut list, alloc, &gathered.defaults)?;
+    find_of_configured(&mut list, library.project(), &gathered.kept)?;
     find_message_faults(&mut list, alloc, plan)?;
     find_warnings(&mut list, alloc, library.project())?;
     find_unfit_events(&mut list, alloc, library)?;
@@ -57,24 +66,26 @@ fn find_all(alloc: Global, library: &Library<'_>, plan: &Plan) -> Result<Vec<Dia
 }
 
 /// The diagnostics of a library's project, by the plan of its messages: all that is wrong with it, each
-/// once, in order.
+/// once, in order. What is found of nodes by themselves is held for the next time.
 ///
 /// Reads each text that the library hasn't read. Else takes time by the number of the texts' warnings, of the
-/// entries and parameters of each node, of the messages for each node, of the events, and of the diagnostics with
-/// its logarithm; memory by the number of diagnostics, the devices of all texts, the entries that each data sheet
-/// gives a parameter or a doubtful default, and the values of one node at a time. Want of memory is the only
-/// error.
+/// entries and parameters of each node that isn't the same, with the same device, as when it was last found, of the
+/// parameters and the length of the text of each other, of the entries of each node that sends a message, of the
+/// messages for each node, of the events, and of the diagnostics with its logarithm; memory by the number of
+/// diagnostics, the devices of all texts, the parameters of all nodes, and for each node the entries that its data sheet
+/// gives a parameter or a doubtful default, and the values that are wanted of it. Want of memory is the only error.
 pub fn diagnostics_by(
     alloc: Global,
     library: &mut Library<'_>,
     plan: &Plan,
+    nodes: &mut NodesFound,
 ) -> Result<Vec<Diag>, AllocError>
     requires { plan.now ≡ plan_of_project library.old.project }
     ensures list { IfOk result (λ list. list.items ≡ diagnostics_of library.old.project) }
     ensures project { library.new.project ≡ library.old.project }
 {
     read_all(library)?;
-    let mut list = find_all(alloc, library, plan)?;
+    let mut list = find_all(alloc, library, plan, nodes)?;
     sort_once(&mut list);
     Ok(list)
 }
@@ -86,5 +97,6 @@ pub fn diagnostics(alloc: Global, project: &Project, plan: &Plan) -> Result<Vec<
     ensures { IfOk result (λ list. list.items ≡ diagnostics_of project.now) }
 {
     let mut library = Library::new(alloc, project);
-    diagnostics_by(alloc, &mut library, plan)
+    let mut nodes = NodesFound::new(alloc);
+    diagnostics_by(alloc, &mut library, plan, &mut nodes)
 }

@@ -1,21 +1,15 @@
 //! What is kept of each node once it is configured.
-ghost use Rattle.std.specs.Prelude.{◌≡◌, ◌++◌, OnOk, IfOk, filter_map};
+ghost use Rattle.std.specs.Prelude.{◌≡◌, ◌++◌, ◌∷◌, [], OnOk, filter_map, option_map};
+ghost use Rattle.std.specs.List.{cons_option};
 ghost use Rattle.eds_device.specs.Places.{pairs_of};
-ghost use Rattle.project_plan.specs.Network.{member_of, plan_of_project};
 ghost use Rattle.project_plan.specs.Values.{number_among};
-ghost use Rattle.co_diag.specs.Devices.{AreAllRead, of_node};
-ghost use Rattle.co_diag.specs.Found.{consumers, counters, identifiers};
-ghost use Rattle.co_diag.specs.Kept.{numbers_by, times};
-ghost use Rattle.co_diag.specs.Rules.{consumer_of, consumers_in, counters_in, identifier_at, identifiers_in, times_in};
+ghost use Rattle.co_diag.specs.Rules.{consumer_of, counter_at, heartbeat_time, identifier_at};
 
 use crate::consumer::HeartbeatConsumer;
-use crate::devices::device_of;
 use cia301::{CobId, Identifier};
 use co_dict::Dict;
-use co_project::Node;
 use eds_device::DataSheet;
-use pdo_plan::Plan;
-use project_plan::{Library, is_tpdo_cob_id, unsigned_8, unsigned_16, unsigned_32, wanted_values};
+use project_plan::{is_tpdo_cob_id, unsigned_8, unsigned_16, unsigned_32};
 use std::alloc::{AllocError, Global};
 
 /// What is kept of the nodes once they are configured.
@@ -102,81 +96,62 @@ fn keep_consumers(
     Ok(())
 }
 
-/// Keeps what a node has once it is configured.
-fn keep_device(
+/// Keeps what a node has once it is configured, by the values that are wanted of it.
+pub(crate) fn keep_values(
     kept: &mut Kept,
-    alloc: Global,
-    plan: &Plan,
     id: u8,
-    node: &Node,
     device: &DataSheet,
+    values: &Dict,
 ) -> Result<(), AllocError>
-    ensures identifiers { OnOk result (kept.new.identifiers.items
-        ≡ kept.old.identifiers.items ++ identifiers_in (numbers_by plan.now) (member_of id node.now device.now)) }
-    ensures consumers { OnOk result (kept.new.consumers.items
-        ≡ kept.old.consumers.items ++ consumers_in (numbers_by plan.now) (member_of id node.now device.now)) }
-    ensures times { OnOk result (kept.new.times.items
-        ≡ kept.old.times.items ++ times_in (numbers_by plan.now) (member_of id node.now device.now)) }
-    ensures counters { OnOk result (kept.new.counters.items
-        ≡ kept.old.counters.items ++ counters_in (numbers_by plan.now) (member_of id node.now device.now)) }
+    ensures identifiers { OnOk result (kept.new.identifiers.items ≡ kept.old.identifiers.items
+        ++ filter_map (identifier_at (number_among device.now.sections values.now)) (pairs_of device.now.sections)) }
+    ensures consumers { OnOk result (kept.new.consumers.items ≡ kept.old.consumers.items
+        ++ filter_map (consumer_of (number_among device.now.sections values.now) id) (pairs_of device.now.sections)) }
+    ensures times { OnOk result (kept.new.times.items ≡ kept.old.times.items
+        ++ (id, heartbeat_time (number_among device.now.sections values.now)) ∷ []) }
+    ensures counters { OnOk result (kept.new.counters.items ≡ kept.old.counters.items
+        ++ cons_option (option_map (λ n. (id, n)) (counter_at (number_among device.now.sections values.now))) []) }
 {
-    let values = wanted_values(alloc, plan, id, node, device)?;
-    keep_identifiers(&mut kept.identifiers, device, &values)?;
-    keep_consumers(&mut kept.consumers, id, device, &values)?;
-    let time = unsigned_16(device, &values, 0x1017, 0).unwrap_or(0);
+    keep_identifiers(&mut kept.identifiers, device, values)?;
+    keep_consumers(&mut kept.consumers, id, device, values)?;
+    let time = unsigned_16(device, values, 0x1017, 0).unwrap_or(0);
     kept.times.push((id, time))?;
-    if let Some(counter) = unsigned_8(device, &values, 0x1019, 0) {
+    if let Some(counter) = unsigned_8(device, values, 0x1019, 0) {
         kept.counters.push((id, counter))?;
     }
     Ok(())
 }
 
-/// Keeps it of a node, where it has a device.
-fn keep_node(
-    kept: &mut Kept,
-    alloc: Global,
-    library: &Library<'_>,
-    plan: &Plan,
-    id: u8,
-    node: &Node,
-) -> Result<(), AllocError>
-    requires { AreAllRead library.now }
-    ensures identifiers { OnOk result (kept.new.identifiers.items
-        ≡ kept.old.identifiers.items ++ of_node (identifiers_in (numbers_by plan.now)) library.now.project (id, node.now)) }
-    ensures consumers { OnOk result (kept.new.consumers.items
-        ≡ kept.old.consumers.items ++ of_node (consumers_in (numbers_by plan.now)) library.now.project (id, node.now)) }
-    ensures times { OnOk result (kept.new.times.items
-        ≡ kept.old.times.items ++ of_node (times_in (numbers_by plan.now)) library.now.project (id, node.now)) }
-    ensures counters { OnOk result (kept.new.counters.items
-        ≡ kept.old.counters.items ++ of_node (counters_in (numbers_by plan.now)) library.now.project (id, node.now)) }
-{
-    match device_of(library, node.eds.as_slice()) {
-        Some(device) => keep_device(kept, alloc, plan, id, node, device),
-        None => Ok(()),
+impl Kept {
+    /// Nothing is kept.
+    pub(crate) fn new(alloc: Global) -> Kept
+        ensures identifiers { result.identifiers.items ≡ [] }
+        ensures consumers { result.consumers.items ≡ [] }
+        ensures times { result.times.items ≡ [] }
+        ensures counters { result.counters.items ≡ [] }
+    {
+        Kept {
+            identifiers: Vec::new(alloc),
+            consumers: Vec::new(alloc),
+            times: Vec::new(alloc),
+            counters: Vec::new(alloc),
+        }
     }
-}
 
-/// What is kept of all nodes. The values of one at a time are in memory.
-pub(crate) fn keep_all(
-    alloc: Global,
-    library: &Library<'_>,
-    plan: &Plan,
-) -> Result<Kept, AllocError>
-    requires read { AreAllRead library.now }
-    requires plan { plan.now ≡ plan_of_project library.now.project }
-    ensures identifiers { IfOk result (λ kept. kept.identifiers.items ≡ identifiers library.now.project) }
-    ensures consumers { IfOk result (λ kept. kept.consumers.items ≡ consumers library.now.project) }
-    ensures times { IfOk result (λ kept. kept.times.items ≡ times library.now.project) }
-    ensures counters { IfOk result (λ kept. kept.counters.items ≡ counters library.now.project) }
-{
-    let mut kept = Kept {
-        identifiers: Vec::new(alloc),
-        consumers: Vec::new(alloc),
-        times: Vec::new(alloc),
-        counters: Vec::new(alloc),
-    };
-    for (id, node) in library.project().nodes() {
-        keep_node(&mut kept, alloc, library, plan, *id, node)?;
+    /// Keeps what is kept of further nodes.
+    pub(crate) fn add(&mut self, more: &Kept) -> Result<(), AllocError>
+        ensures identifiers { OnOk result (self.new.identifiers.items
+            ≡ self.old.identifiers.items ++ more.now.identifiers.items) }
+        ensures consumers { OnOk result (self.new.consumers.items
+            ≡ self.old.consumers.items ++ more.now.consumers.items) }
+        ensures times { OnOk result (self.new.times.items ≡ self.old.times.items ++ more.now.times.items) }
+        ensures counters { OnOk result (self.new.counters.items
+            ≡ self.old.counters.items ++ more.now.counters.items) }
+    {
+        self.identifiers.extend_from_slice(&more.identifiers)?;
+        self.consumers.extend_from_slice(&more.consumers)?;
+        self.times.extend_from_slice(&more.times)?;
+        self.counters.extend_from_slice(&more.counters)?;
+        Ok(())
     }
-    Ok(kept)
 }

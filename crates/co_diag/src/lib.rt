@@ -8,12 +8,16 @@ mod defaults;
 mod devices;
 mod events;
 mod finding;
+mod gathering;
 mod kept;
 pub mod laws;
 mod messages;
+mod node_found;
 mod nodes;
+mod nodes_found;
 mod parameters;
 mod shared;
 mod texts;
 
 pub use finding::{diagnostics, diagnostics_by};
+pub use nodes_found::NodesFound;

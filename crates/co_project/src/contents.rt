@@ -10,8 +10,8 @@ use crate::nodes::Nodes;
 use crate::texts::Texts;
 use base::{Octets, Shared};
 use co_scenario::{Script, TimedEvent};
+use project_edits::{Edit, EditFault, ManagerSettings, ScriptVersion};
 use project_messages::Messages;
-use script_commands::{Edit, EditFault, ManagerSettings, ScriptVersion};
 use std::alloc::{AllocError, Global};
 use std::marker::Model;
 

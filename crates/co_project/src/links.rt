@@ -7,8 +7,8 @@ ghost use Rattle.co_project.specs.Project.{accept, adds};
 
 use crate::contents::Contents;
 use base::Octets;
+use project_edits::EditFault;
 use project_messages::Message;
-use script_commands::EditFault;
 
 impl Contents {
     /// Gives a name a message. A known one keeps its SYNC start value, its sources and its sinks.

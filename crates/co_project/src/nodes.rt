@@ -8,7 +8,7 @@ ghost use Rattle.co_project.specs.Tables.{adds_param, put_param, drop_param};
 use crate::node::Node;
 use base::Octets;
 use node_parameters::Params;
-use script_commands::EditFault;
+use project_edits::EditFault;
 use std::alloc::{AllocError, Global};
 use std::collections::BTreeMap;
 use std::collections::btree_map::Iter;

@@ -23,7 +23,7 @@ fn same_step(step: &Step, other: &Step) -> bool
                 sub: s,
                 bytes: b,
             },
-        ) => node == n && index == i && sub == s && bytes.as_slice() == b.as_slice(),
+        ) => node == n && index == i && sub == s && bytes.get().as_slice() == b.get().as_slice(),
         (Step::Power { node, on }, Step::Power { node: n, on: o }) => node == n && on == o,
         (
             Step::Nmt { node, command },

@@ -1,7 +1,7 @@
 //! What happens to a node from outside, with its value.
 
 use crate::nmt_command::NmtCommand;
-use base::Octets;
+use base::{Octets, Shared};
 
 /// What happens to a node from outside, as the simulation takes it: a value that is set is bytes of its
 /// entry's type, no longer text.
@@ -15,8 +15,8 @@ pub enum Step {
         index: u16,
         /// The sub-index of the entry.
         sub: u8,
-        /// The value, as it travels: numbers with their lowest byte first.
-        bytes: Octets,
+        /// The value, as it travels: numbers with their lowest byte first. Others may hold it too.
+        bytes: Shared<Octets>,
     },
     /// The power of a node is switched.
     Power {

@@ -2,7 +2,7 @@
 -- A value is the list of its bytes as they travel: numbers little-endian, negative ones by two's complement.
 use Rattle.std.specs.Prelude.{◌≡◌, ℕ, ◌+◌, ◌-◌, ◌*◌, ◌^◌, ◌<◌, ◌≤◌, suc, ℤ, pos, negsuc, ◌&&◌, nat_lt, nat_le}
 use Rattle.std.specs.Prelude.{if◌then◌else◌, List, [], ◌∷◌, ◌++◌, length, get_or, reverse, replicate, Option, Some}
-use Rattle.std.specs.Prelude.{None, option_map, option_and_then, flat_map, codes, decimal}
+use Rattle.std.specs.Prelude.{None, option_map, option_and_then, flat_map, codes, decimal, is_some, Bool}
 use Rattle.std.specs.Char.{digit_value, is_digit}
 use Rattle.std.specs.Fmt.{signed_decimal}
 use Rattle.std.specs.Option.{option_or}
@@ -13,8 +13,8 @@ use Rattle.co_values.specs.declared.data_type.DataType.{DataType}
 use Rattle.co_values.specs.declared.form.Form.{Form}
 use Rattle.co_values.specs.declared.form.Form.TheVariants.{Flag, Signed, Unsigned, Characters, HexPairs, Unmodelled}
 use Rattle.co_values.specs.declared.form.Width.{Width}
-use Rattle.co_values.specs.Number.{formula, hexadecimal}
-use Rattle.co_values.specs.Types.{form, octets}
+use Rattle.co_values.specs.Number.{formula, formula_in, has_node, hexadecimal}
+use Rattle.co_values.specs.Types.{fixed_len, form, octets}
 
 -- ---- from text
 
@@ -74,6 +74,10 @@ value_in Unmodelled text node = None
 -- the bytes that a text spells as a value of a type at a node
 unfoldable pub value : DataType → List ℕ → ℕ → Option (List ℕ)
 value kind text node = value_in (form kind) text node
+
+-- it may spell another value at another node: the type's values are numbers, and it is a formula of `$NODEID`
+abbrev pub may_vary : DataType → List ℕ → Bool
+may_vary kind text = is_some (fixed_len kind) && has_node (formula_in text)
 
 -- ---- the bytes
 

@@ -9,6 +9,7 @@ use crate::data_type::DataType;
 use crate::form::{Form, Width};
 use crate::little::to_le;
 use crate::reading::{flag_text_bits, signed_text_bits, unsigned_text_bits};
+use crate::spelling::Spelling;
 use byteorder::{ByteOrder, LittleEndian};
 
 /// The number that the low bytes of `bits` are without a sign.
@@ -31,9 +32,9 @@ fn signed_number(width: Width, bits: u64) -> i128
 
 /// The number of the value that a text of an EDS or DCF (CiA 306) spells at a node as a BOOLEAN or
 /// an integer, from -2^63 to 2^64 - 1. `None` where it spells no value of the type, and for all
-/// other types. Needs no memory.
+/// other types. Takes constant time and no memory.
 #[tactic(auto, unfolding(crate::specs::Values::value, crate::specs::Values::number_in))]
-pub fn integer_of(kind: DataType, text: &[u8], node: u8) -> Option<i128>
+pub fn integer_of(kind: DataType, text: &Spelling<'_>, node: u8) -> Option<i128>
     ensures { result ≡ option_and_then (number_of_bytes kind) (value kind text.now node) }
 {
     match kind.form() {

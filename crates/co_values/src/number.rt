@@ -8,7 +8,7 @@ ghost use Rattle.co_values.specs.Number.{octal as octal_number, unsigned_number}
 use base::read_digits;
 
 /// 2^64, which is past every number that a text may give.
-const LIMIT: u128 = 0x1_0000_0000_0000_0000;
+pub(crate) const LIMIT: u128 = 0x1_0000_0000_0000_0000;
 
 /// The number behind `0x`, cut at 2^64.
 pub(crate) fn hexadecimal(text: &[u8]) -> Option<u128>

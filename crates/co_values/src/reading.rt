@@ -1,18 +1,17 @@
 //! Values from text.
 
-ghost use Rattle.std.specs.Prelude.{◌≡◌, ◌≤◌, None, Ok, IfOk, IfSome, is_some, option_map, option_and_then};
+ghost use Rattle.std.specs.Prelude.{◌≡◌, ◌≤◌, pos, None, Ok, IfOk, IfSome, is_some, option_map, option_and_then};
 ghost use Rattle.byteorder.specs.Endian.{little_bytes};
-ghost use Rattle.co_values.specs.Number.{formula};
+ghost use Rattle.co_values.specs.Number.{formula, hexadecimal};
 ghost use Rattle.co_values.specs.Values.{value, value_in, bytes_of_pairs, if_not_too_long, flag_bits as bits_of_flag};
 ghost use Rattle.co_values.specs.Values.{unsigned_bits as bits_of_unsigned, signed_text_bits as bits_of_signed_text};
 
 use crate::data_type::DataType;
 use crate::form::{Form, Width};
-use crate::formula::read_formula;
 use crate::hex::{is_paired, read_pairs};
 use crate::little::to_le;
-use crate::number::hexadecimal;
 use crate::range::{flag_bits, signed_bits, unsigned_bits};
+use crate::spelling::Spelling;
 use crate::value::{LONGEST_VALUE, Value};
 use base::Octets;
 use std::alloc::{AllocError, Global};
@@ -35,29 +34,39 @@ fn number_bytes(
 }
 
 /// What a text spells as a BOOLEAN.
-pub(crate) fn flag_text_bits(text: &[u8], node: u8) -> Option<u64>
+pub(crate) fn flag_text_bits(text: &Spelling<'_>, node: u8) -> Option<u64>
     ensures { result ≡ option_and_then bits_of_flag (formula text.now node) }
 {
-    flag_bits(read_formula(text, node)?)
+    flag_bits(text.number(node)?)
 }
 
 /// What a text spells as an unsigned integer.
-pub(crate) fn unsigned_text_bits(width: Width, text: &[u8], node: u8) -> Option<u64>
+pub(crate) fn unsigned_text_bits(width: Width, text: &Spelling<'_>, node: u8) -> Option<u64>
     ensures { result ≡ option_and_then (bits_of_unsigned width) (formula text.now node) }
 {
-    unsigned_bits(width, read_formula(text, node)?)
+    unsigned_bits(width, text.number(node)?)
+}
+
+/// What a text spells as a two's complement.
+fn complement_bits(width: Width, text: &Spelling<'_>) -> Option<u64>
+    ensures { result ≡ option_and_then (bits_of_unsigned width) (option_map pos (hexadecimal text.now)) }
+{
+    match text.digits() {
+        Some(digits) => unsigned_bits(width, i128::from(digits)),
+        None => None,
+    }
 }
 
 /// What a text spells as a signed integer.
-pub(crate) fn signed_text_bits(width: Width, text: &[u8], node: u8) -> Option<u64>
+pub(crate) fn signed_text_bits(width: Width, text: &Spelling<'_>, node: u8) -> Option<u64>
     ensures { result ≡ bits_of_signed_text width text.now node }
 {
-    if let Some(number) = read_formula(text, node) {
+    if let Some(number) = text.number(node) {
         if let Some(bits) = signed_bits(width, number) {
             return Some(bits);
         }
     }
-    unsigned_bits(width, hexadecimal(text)? as i128)
+    complement_bits(width, text)
 }
 
 /// The bytes that a text spells, where they are not too many.
@@ -94,7 +103,12 @@ fn pairs(alloc: Global, text: &[u8]) -> Result<Option<Octets>, AllocError>
 }
 
 /// The bytes that a text spells in a form.
-fn bytes_of(alloc: Global, form: Form, text: &[u8], node: u8) -> Result<Option<Octets>, AllocError>
+fn bytes_of(
+    alloc: Global,
+    form: Form,
+    text: &Spelling<'_>,
+    node: u8,
+) -> Result<Option<Octets>, AllocError>
     ensures bytes { IfOk result (λ bytes. bytes ≡ value_in form text.now node) }
     ensures none { value_in form text.now node ≡ None → result ≡ Ok None }
 {
@@ -110,22 +124,42 @@ fn bytes_of(alloc: Global, form: Form, text: &[u8], node: u8) -> Result<Option<O
             unsigned_text_bits(width, text, node),
             width.octets(),
         ),
-        Form::Characters => characters(alloc, text),
-        Form::HexPairs => pairs(alloc, text),
+        Form::Characters => characters(alloc, text.text()),
+        Form::HexPairs => pairs(alloc, text.text()),
         Form::Unmodelled => Ok(None),
     }
 }
 
-/// The value that a text of an EDS or DCF (CiA 306) spells at a node, as its data type reads it:
-/// BOOLEAN and integers by a formula in range, INTEGERn also by its two's complement in hexadecimal
-/// digits, VISIBLE_STRING by its bytes, OCTET_STRING and DOMAIN by pairs of hexadecimal digits, up
-/// to 512 bytes. `None` where it spells none, for which no memory is needed. Takes time and memory
-/// linear in the text.
+/// Whether a text spells a value in a form.
+fn has_bytes(form: Form, text: &Spelling<'_>, node: u8) -> bool
+    ensures { result ≡ is_some (value_in form text.now node) }
+{
+    match form {
+        Form::Flag => flag_text_bits(text, node).is_some(),
+        Form::Signed(width) => signed_text_bits(width, text, node).is_some(),
+        Form::Unsigned(width) => unsigned_text_bits(width, text, node).is_some(),
+        Form::Characters => text.text().len() <= LONGEST_VALUE,
+        Form::HexPairs => are_pairs(text.text()),
+        Form::Unmodelled => false,
+    }
+}
+
+/// Whether a text spells a value of a type at a node, as `value_of` reads it. Takes constant time, and for
+/// OCTET_STRING and DOMAIN time linear in the text. Needs no memory.
 #[tactic(auto, unfolding(crate::specs::Values::value))]
-pub fn value_of(
+pub fn is_spelled(kind: DataType, text: &Spelling<'_>, node: u8) -> bool
+    ensures { result ≡ is_some (value kind text.now node) }
+{
+    has_bytes(kind.form(), text, node)
+}
+
+/// The value that a text spells at a node, as `value_of` reads it. Takes constant time where the values of the
+/// type are numbers, and else time and memory linear in the text.
+#[tactic(auto, unfolding(crate::specs::Values::value))]
+pub fn spelled_value(
     alloc: Global,
     kind: DataType,
-    text: &[u8],
+    text: &Spelling<'_>,
     node: u8,
 ) -> Result<Option<Value>, AllocError>
     ensures kind { IfOk result (λ given. IfSome given (λ v. v.kind ≡ kind)) }
@@ -137,4 +171,23 @@ pub fn value_of(
         Some(bytes) => Ok(Some(Value { kind, bytes })),
         None => Ok(None),
     }
+}
+
+/// The value that a text of an EDS or DCF (CiA 306) spells at a node, as its data type reads it:
+/// BOOLEAN and integers by a formula in range, INTEGERn also by its two's complement in hexadecimal
+/// digits, VISIBLE_STRING by its bytes, OCTET_STRING and DOMAIN by pairs of hexadecimal digits, up
+/// to 512 bytes. `None` where it spells none, for which no memory is needed. Takes time and memory
+/// linear in the text.
+pub fn value_of(
+    alloc: Global,
+    kind: DataType,
+    text: &[u8],
+    node: u8,
+) -> Result<Option<Value>, AllocError>
+    ensures kind { IfOk result (λ given. IfSome given (λ v. v.kind ≡ kind)) }
+    ensures bytes { IfOk result (λ given. option_map (λ v. v.bytes) given ≡ value kind text.now node) }
+    ensures none { value kind text.now node ≡ None → result ≡ Ok None }
+{
+    let text = Spelling::read(text);
+    spelled_value(alloc, kind, &text, node)
 }

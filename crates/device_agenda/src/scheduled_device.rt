@@ -23,7 +23,7 @@ use crate::low_bytes::LowBytes;
 use crate::reach::Reach;
 use crate::schedule::Schedule;
 use crate::stirring::stirring;
-use base::{has_come, unshare};
+use base::{Octets, Shared, has_come, unshare};
 use can_frame::{Contender, Waiting};
 use co_device::Device;
 use co_dict::Dict;
@@ -190,6 +190,23 @@ impl ScheduledDevice {
         Ok(ScheduledDevice { schedule })
     }
 
+    /// Whether the other device is due when it is, as far as their agendas tell. Takes constant time.
+    fn may_be_due_with(&self, other: &ScheduledDevice) -> bool
+        ensures { self.now ≡ other.now → IsTrue result }
+    {
+        if self.schedule.agenda.awake || other.schedule.agenda.awake {
+            return true;
+        }
+        self.next_due() == other.next_due()
+    }
+
+    /// Whether the other device looks the same: a look ahead of `may_be`, at what is told in constant time.
+    pub fn looks_like(&self, other: &ScheduledDevice) -> bool
+        ensures { self.now ≡ other.now → IsTrue result }
+    {
+        self.may_be_due_with(other) && self.schedule.device.looks_like(&other.schedule.device)
+    }
+
     /// Whether the other device may be the same: a quick look ahead of `same`.
     pub fn may_be(&self, other: &ScheduledDevice) -> bool
         ensures { self.now ≡ other.now → IsTrue result }
@@ -265,10 +282,7 @@ impl ScheduledDevice {
         ensures frame { IfOk result (λ sent. slice_get self.old.waiting place ≡ Some sent) }
         ensures left { OnOk result (self.new ≡ record self.old { waiting = remove self.old.waiting place }) }
     {
-        unshare(&mut self.schedule)?;
-        let Some(schedule) = Rc::get_mut(&mut self.schedule) else {
-            return Err(AllocError);
-        };
+        let schedule = unshare(&mut self.schedule)?;
         let sent = schedule.device.send(place);
         schedule.agenda.waits = schedule.device.contender().is_some();
         Ok(sent)
@@ -280,26 +294,26 @@ impl ScheduledDevice {
         ensures ran { OnOk result (GoesBy (after_power on t self.old) self.new P.seen P.asks shapes.old shapes.new) }
         ensures lasts { Lasts (P.seen shapes.old) (P.seen shapes.new) }
     {
-        unshare(&mut self.schedule)?;
-        let Some(schedule) = Rc::get_mut(&mut self.schedule) else {
-            return Err(AllocError);
-        };
+        let schedule = unshare(&mut self.schedule)?;
         schedule.agenda = Agenda::unknown();
         schedule.device.power(on, t, shapes)
     }
 
     /// The application of the device sets an entry at the moment t, whatever its access and limits; without
     /// power nothing happens. The index isn't one of 1400h to 1BFFh, and the value has at most 512 bytes.
-    pub fn set(&mut self, t: u64, index: u16, sub: u8, bytes: &[u8]) -> Result<(), AllocError>
+    pub fn set(
+        &mut self,
+        t: u64,
+        index: u16,
+        sub: u8,
+        bytes: &Shared<Octets>,
+    ) -> Result<(), AllocError>
         requires soon { t < END }
         requires own { is_of_pdos index ≡ false }
         requires short { length bytes.now ≤ longest_value }
         ensures state { OnOk result (self.new ≡ after_set t (index, sub) bytes.now self.old) }
     {
-        unshare(&mut self.schedule)?;
-        let Some(schedule) = Rc::get_mut(&mut self.schedule) else {
-            return Err(AllocError);
-        };
+        let schedule = unshare(&mut self.schedule)?;
         schedule.agenda = Agenda::unknown();
         schedule.device.set(t, index, sub, bytes)
     }
@@ -322,10 +336,7 @@ impl ScheduledDevice {
         if self.does_nothing(t, delivery) {
             return Ok(false);
         }
-        unshare(&mut self.schedule)?;
-        let Some(schedule) = Rc::get_mut(&mut self.schedule) else {
-            return Err(AllocError);
-        };
+        let schedule = unshare(&mut self.schedule)?;
         schedule.agenda = Agenda::unknown();
         run(&mut schedule.device, t, delivery, shapes)?;
         plan(schedule);

@@ -18,6 +18,18 @@ pub struct Diag {
 }
 
 impl Diag {
+    /// The same diagnostic. Takes time and memory by the length of the name that is in it, if one is; want of memory
+    /// is the only error.
+    pub fn copy(&self, alloc: Global) -> Result<Diag, AllocError>
+        ensures { IfOk result (λ diag. diag ≡ self.now) }
+    {
+        let subject = self.subject.copy(alloc)?;
+        Ok(Diag {
+            code: self.code,
+            subject,
+        })
+    }
+
     /// Its line, without the LF: the code, and the words of the subject, each after a space.
     pub fn line(&self, alloc: Global) -> Result<Vec<u8>, AllocError>
         ensures { IfOk result (λ line. line.items ≡ diag_line self.now) }

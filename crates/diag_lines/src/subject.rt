@@ -1,7 +1,9 @@
 //! What a diagnostic is of.
+ghost use Rattle.std.specs.Prelude.{◌≡◌, IfOk};
 
 use crate::name::Name;
 use cia301::Identifier;
+use std::alloc::{AllocError, Global};
 
 /// What a diagnostic is of, in the order of the words that its line shows.
 #[derive(Debug, PartialEq, Eq, PartialOrd, Ord, Drop)]
@@ -20,4 +22,25 @@ pub enum Subject {
     Node(u8, Option<u8>),
     /// `param`: a parameter of a node, by node, index and sub-index.
     Param(u8, u16, u8),
+}
+
+impl Subject {
+    /// The same subject. Takes time and memory by the length of its name, if it has one.
+    pub(crate) fn copy(&self, alloc: Global) -> Result<Subject, AllocError>
+        ensures { IfOk result (λ subject. subject ≡ self.now) }
+    {
+        let copied = match self {
+            Subject::Cob(identifier) => Subject::Cob(*identifier),
+            Subject::Default(node, index, sub) => Subject::Default(*node, *index, *sub),
+            Subject::Eds(name, line) => Subject::Eds(
+                Name::from_slice(alloc, name.as_slice())?,
+                *line,
+            ),
+            Subject::Event(number) => Subject::Event(*number),
+            Subject::Message(name) => Subject::Message(Name::from_slice(alloc, name.as_slice())?),
+            Subject::Node(node, sub) => Subject::Node(*node, *sub),
+            Subject::Param(node, index, sub) => Subject::Param(*node, *index, *sub),
+        };
+        Ok(copied)
+    }
 }

@@ -13,6 +13,7 @@ use crate::fingerprint::{changed, weight, weight_above, weight_of};
 use crate::held::{Held, IN_PLACE};
 use crate::layer::Layer;
 use crate::places::{agree_on, has_each, write_each};
+use base::{Octets, Shared};
 use co_values::{number_8, number_16, number_32, number_64};
 use std::alloc::{AllocError, Global};
 use std::marker::Model;
@@ -107,6 +108,25 @@ impl Dict {
             return Ok(());
         }
         let value = Held::of(self.alloc, bytes)?;
+        self.set((index, sub), value)
+    }
+
+    /// The same of a value that others hold too: more than eight bytes are shared with them.
+    pub fn write_shared(
+        &mut self,
+        index: u16,
+        sub: u8,
+        bytes: &Shared<Octets>,
+    ) -> Result<(), AllocError>
+        requires { length bytes.now ≤ longest_value }
+        ensures ok { OnOk result (self.new ≡ map.insert self.old (index, sub) bytes.now) }
+        ensures err { OnErr result (self.new ≡ self.old) }
+    {
+        let octets = bytes.get().as_slice();
+        if !self.is_set_unseen(octets) && self.holds(index, sub, octets) {
+            return Ok(());
+        }
+        let value = Held::shared(bytes)?;
         self.set((index, sub), value)
     }
 

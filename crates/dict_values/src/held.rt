@@ -3,7 +3,7 @@
 ghost use Rattle.std.specs.Prelude.{◌≡◌, ◌≤◌, ◌↔◌, ℕ, List, length, IfOk, IsTrue};
 ghost use Rattle.co_values.specs.Values.{longest_value};
 
-use base::Octets;
+use base::{Octets, Shared};
 use std::alloc::{AllocError, Global};
 use std::marker::Model;
 use std::rc::Rc;
@@ -80,6 +80,21 @@ impl Held {
         } else {
             long(alloc, bytes)
         }
+    }
+
+    /// The bytes that others hold too: more than eight are shared with them. Takes no memory.
+    pub(crate) fn shared(bytes: &Shared<Octets>) -> Result<Held, AllocError>
+        requires { length bytes.now ≤ longest_value }
+        ensures { IfOk result (λ held. held ≡ bytes.now) }
+    {
+        let octets = bytes.get();
+        if octets.len() <= IN_PLACE {
+            return Ok(short(octets.as_slice()));
+        }
+        let octets = bytes.pointer()?;
+        Ok(Held {
+            kept: Kept::Long(octets),
+        })
     }
 
     /// The bytes.

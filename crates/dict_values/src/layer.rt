@@ -43,10 +43,7 @@ fn insert_in(
     ensures before { IfOk result (λ before. before ≡ map.get table.old.value place) }
     ensures err { OnErr result (table.new.value ≡ table.old.value) }
 {
-    unshare(table)?;
-    let Some(table) = Rc::get_mut(table) else {
-        return Err(AllocError);
-    };
+    let table = unshare(table)?;
     table.insert(place, value)
 }
 

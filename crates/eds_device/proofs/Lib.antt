@@ -1,5 +1,5 @@
 pub mod CommonLemmas
-pub mod FixedLemmas
+pub mod DefaultLemmas
 pub mod IdentityLemmas
 pub mod LawLemmas
 pub mod LengthLemmas

@@ -2,7 +2,6 @@ pub mod Common
 pub mod Described
 pub mod Entries
 pub mod Faults
-pub mod Fixed
 pub mod Identity
 pub mod Names
 pub mod Origins

@@ -1,56 +1,72 @@
 //! What a device has alike at every node, found once for all of them.
-ghost use Rattle.std.specs.Prelude.{◌≡◌, ℕ, IfOk, IfSome, IsTrue, option_map};
+ghost use Rattle.std.specs.Prelude.{◌≡◌, ℕ, IfOk, IfSome, IsTrue, OnOk, option_map};
+ghost use Rattle.std.specs.Bool.{IsFalse};
 ghost use Rattle.std.specs.Arc.{arc_value};
 ghost use Rattle.std.specs.FinMap as map;
 ghost use Rattle.std.specs.Option.{option_map_or};
 ghost use Rattle.co_dict.specs.Places.{place_cmp};
-ghost use Rattle.eds_device.specs.Common.{has_dollar, IsCommon, IsOfAll};
-ghost use Rattle.eds_device.specs.Entries.{entry_at, entry_by, limit_at, shape_of};
-ghost use Rattle.eds_device.specs.Fixed.{AreFixed};
-ghost use Rattle.eds_places.specs.Places.{pairs_of};
+ghost use Rattle.eds_device.specs.Common.{AreAlike, IsCommon, IsOfAll, with_default, with_defaults};
+ghost use Rattle.eds_device.specs.Entries.{default_at, default_by, entry_at, entry_by, limit_at, shape_of};
 ghost use Rattle.eds_entries.specs.Shown.{description_shown};
 
 use crate::data_sheet::DataSheet;
 use crate::entries::entry_of;
-use crate::fixed::{Fixed, LONGEST_TEXT, fixed_defaults};
 use base::Octets;
-use co_dict::Shape;
-use co_values::DataType;
-use eds_entries::Described;
+use co_dict::{Dict, Shape};
+use co_values::{DataType, Spelling};
+use eds_entries::{DefaultText, Described};
 use std::alloc::AllocError;
 use std::sync::Arc;
+
+/// The number of entries for each of which one default may be another at another node, if defaults are shared: a
+/// device copies those above what is shared as it first writes, and looks there first as it reads.
+const ENTRIES_FOR_ANOTHER: usize = 128;
 
 /// What a device has alike at every node.
 #[derive(Drop)]
 pub(crate) struct Common {
     /// Its shape, if that is known to be the same at each.
     pub shape: Option<Shape>,
-    /// What is known of the default of each entry, in the order of the entries.
-    pub fixed: Vec<Fixed>,
+    /// Its defaults, if nearly all of them are known to be the same at each.
+    pub alike: Option<Alike>,
 }
 
-/// Whether a text has a `$`, as `$NODEID` has.
-fn has_dollar(text: &[u8]) -> bool
-    ensures { result ≡ has_dollar text.now }
-{
-    text.iter().any(|byte| *byte == b'$')
+/// The defaults that a device has alike at every node.
+#[derive(Drop)]
+pub(crate) struct Alike {
+    /// Those that are known to be the same at each.
+    pub values: Dict,
+    /// The index and sub-index of each entry with another default.
+    pub others: Vec<(u16, u8)>,
 }
 
 /// Whether the limit that a text is for values of a type is known to be the same at every node. Takes constant
 /// time.
-#[tactic(auto, using(crate::proofs::CommonLemmas::limit_of_no_integer, crate::proofs::CommonLemmas::limit_without_dollar))]
-fn is_fixed_limit(kind: DataType, text: &[u8]) -> bool
+#[tactic(auto, using(crate::proofs::CommonLemmas::limit_of_no_integer, crate::proofs::CommonLemmas::limit_of_value))]
+fn is_fixed_limit(kind: DataType, text: &Spelling<'_>) -> bool
     ensures { IsTrue result → (node other : ℕ) → limit_at kind text.now node ≡ limit_at kind text.now other }
 {
-    !kind.is_integer() || text.len() <= LONGEST_TEXT && !has_dollar(text)
+    !kind.is_integer() || !text.may_vary(kind)
 }
 
 /// Whether the entry that is described is known to be the same at every node.
-fn is_fixed(described: Described<'_>) -> bool
+fn is_fixed(described: &Described<'_>) -> bool
     ensures { IsTrue result → (node other : ℕ) →
-        entry_by node (description_shown described.entry) ≡ entry_by other (description_shown described.entry) }
+        entry_by node (description_shown described.now) ≡ entry_by other (description_shown described.now) }
 {
-    is_fixed_limit(described.kind, described.low) && is_fixed_limit(described.kind, described.high)
+    is_fixed_limit(described.kind, &described.low)
+        && is_fixed_limit(described.kind, &described.high)
+}
+
+/// Whether the default that is described may differ from node to node.
+fn may_vary(described: &Described<'_>) -> bool
+    ensures { IsFalse result → (node other : ℕ) →
+        default_by node (description_shown described.now) ≡ default_by other (description_shown described.now) }
+{
+    match &described.default {
+        DefaultText::Written(text) => text.may_vary(described.kind),
+        DefaultText::Count(_count) => false,
+    }
 }
 
 /// Another handle on a text that is kept.
@@ -79,10 +95,10 @@ impl DataSheet {
         let Some(described) = self.described(index, sub) else {
             return Ok(true);
         };
-        if !is_fixed(described) {
+        if !is_fixed(&described) {
             return Ok(false);
         }
-        shape.insert(index, sub, entry_of(described, 0))?;
+        shape.insert(index, sub, entry_of(&described, 0))?;
         Ok(true)
     }
 
@@ -102,18 +118,62 @@ impl DataSheet {
         Ok(Some(shape))
     }
 
-    /// What is known of the defaults of the entries. Takes time by their number.
-    fn common_defaults(&self) -> Result<Vec<Fixed>, AllocError>
-        ensures { IfOk result (λ v. AreFixed self.now.sections (pairs_of self.now.sections) v.items) }
+    /// Whether the default of an entry may differ from node to node.
+    #[tactic(auto, using(crate::proofs::DefaultLemmas::default_alike))]
+    fn may_differ(&self, index: u16, sub: u8) -> bool
+        ensures { IsFalse result → (node other : ℕ)
+            → default_at self.now.sections node index sub ≡ default_at self.now.sections other index sub }
     {
-        let reading = self.reading();
-        fixed_defaults(
-            self.allocator(),
-            reading.sections(),
-            reading.said(),
-            reading.pairs(),
-            reading.stands(),
-        )
+        match self.described(index, sub) {
+            Some(described) => may_vary(&described),
+            None => false,
+        }
+    }
+
+    /// Sets the default of an entry, where it is the same at each node, and else adds the entry to the others.
+    fn add_alike(
+        &self,
+        values: &mut Dict,
+        others: &mut Vec<(u16, u8)>,
+        index: u16,
+        sub: u8,
+    ) -> Result<(), AllocError>
+        ensures { OnOk result ((node : ℕ) → with_defaults self.now.sections node others.new.items values.new
+            ≡ with_default self.now.sections node (index, sub)
+            (with_defaults self.now.sections node others.old.items values.old)) }
+    {
+        if self.may_differ(index, sub) {
+            others.push((index, sub))?;
+            Ok(())
+        } else {
+            self.add_default(values, 0, index, sub)?;
+            Ok(())
+        }
+    }
+
+    /// The defaults that are the same at each node, and the entries with others. Takes time by the number of
+    /// entries and its logarithm.
+    fn alike_defaults(&self) -> Result<Alike, AllocError>
+        ensures { IfOk result (AreAlike self.now.sections) }
+    {
+        let mut values = Dict::new(self.allocator());
+        let mut others = Vec::new(self.allocator());
+        for place in self.pairs() {
+            self.add_alike(&mut values, &mut others, place.0, place.1)?;
+        }
+        Ok(Alike { values, others })
+    }
+
+    /// The same, where nearly all defaults are the same at each node.
+    fn common_defaults(&self) -> Result<Option<Alike>, AllocError>
+        ensures { IfOk result (λ alike. IfSome alike (AreAlike self.now.sections)) }
+    {
+        let alike = self.alike_defaults()?;
+        if alike.others.len() <= self.pairs().len() / ENTRIES_FOR_ANOTHER {
+            Ok(Some(alike))
+        } else {
+            Ok(None)
+        }
     }
 
     /// What it has alike at every node.
@@ -121,15 +181,15 @@ impl DataSheet {
         ensures { IfOk result (λ common. IsOfAll self.now.sections common) }
     {
         let shape = self.common_shape()?;
-        let fixed = self.common_defaults()?;
-        Ok(Common { shape, fixed })
+        let alike = self.common_defaults()?;
+        Ok(Common { shape, alike })
     }
 
     /// The same device, which shares what was read of the text, and holds what is the same at every node: its
-    /// shape, where no limit of an integer has a `$`, as `$NODEID` has, or is longer than 32 bytes; and of each
-    /// entry that it has no default, or the default, where that is a number of at most 32 bytes, or is missing,
-    /// and its value takes at most 8. So `shared_shape` and `defaults` of it are found at once. Takes time and
-    /// memory by the number of entries, and time by its logarithm; want of memory is the only error.
+    /// shape, where no limit of an integer is a formula of `$NODEID`; and its defaults, where at most one in 128
+    /// is such a formula. So `shared_shape` of it is found at once, and `defaults` in time and memory by the number
+    /// of these formulas. Takes time and memory by the number of entries, and time by its logarithm; want of memory
+    /// is the only error.
     pub fn with_common(&self) -> Result<DataSheet, AllocError>
         ensures { IfOk result (λ device. device ≡ self.now) }
     {

@@ -1,8 +1,7 @@
 //! A device, and where its entries stand.
-ghost use Rattle.std.specs.Prelude.{◌≡◌, ◌≤◌, ℕ, length, Some, IsTrue, ◌↔◌, IsErrOf};
+ghost use Rattle.std.specs.Prelude.{◌≡◌, ◌≤◌, length, IfSome, IsTrue, ◌↔◌, IsErrOf};
 ghost use Rattle.std.specs.Bool.{IsFalse};
 ghost use Rattle.std.specs.Option.{option_copied, option_map};
-ghost use Rattle.std.specs.List.{slice_get};
 ghost use Rattle.ini_text.specs.Content.{content_of};
 ghost use Rattle.ini_text.specs.Text.{is_out_of_range, has_bad_byte};
 ghost use Rattle.base.specs.Gives.{Gives};
@@ -11,10 +10,9 @@ ghost use Rattle.eds_places.specs.Places.{pairs_of};
 ghost use Rattle.eds_places.specs.Shown.{origin_shown};
 ghost use Rattle.eds_places.specs.Origins.{object_section, values_section, origin_of};
 ghost use Rattle.eds_device.specs.Faults.{device_of};
-ghost use Rattle.eds_device.specs.Fixed.{IsFixedAt};
+ghost use Rattle.eds_device.specs.Common.{AreAlike};
 
-use crate::common::Common;
-use crate::fixed::{Fixed, known_at};
+use crate::common::{Alike, Common};
 use base::Octets;
 use eds_places::{DeviceFault, Origin, Reading, places_of};
 use ini_text::{Ini, Section};
@@ -130,14 +128,13 @@ impl DataSheet {
         self.reading.values_section(index)
     }
 
-    /// What is known of the default of the entry at a position among the entries.
-    pub(crate) fn fixed_at(&self, position: usize) -> Fixed
-        ensures { (place : ℕ × ℕ) → slice_get (pairs_of self.now.sections) position ≡ Some place
-            → IsFixedAt self.now.sections place result }
+    /// The defaults that are kept for all nodes.
+    pub(crate) fn kept_defaults(&self) -> Option<&Alike>
+        ensures { IfSome result (λ alike. AreAlike self.now.sections alike.now) }
     {
         match &self.common {
-            Some(common) => known_at(&common.fixed, position),
-            None => Fixed::Varies,
+            Some(common) => common.alike.as_ref(),
+            None => None,
         }
     }
 

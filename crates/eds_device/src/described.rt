@@ -1,5 +1,5 @@
 //! What an EDS says of an entry (CiA 306).
-ghost use Rattle.std.specs.Prelude.{◌≡◌, map};
+ghost use Rattle.std.specs.Prelude.{◌≡◌, IfSome, map};
 ghost use Rattle.std.specs.Option.{option_copied, option_map};
 ghost use Rattle.eds_entries.specs.Said.{said_in};
 ghost use Rattle.eds_entries.specs.Shown.{description_shown};
@@ -7,7 +7,7 @@ ghost use Rattle.eds_places.specs.Table.{standing};
 ghost use Rattle.eds_device.specs.Described.{description_by, description_of, kind_at, default_text, value_text};
 
 use crate::data_sheet::DataSheet;
-use co_values::DataType;
+use co_values::{DataType, Spelling};
 use eds_entries::{DefaultText, Described, Said, highest_sub, unless_empty};
 use eds_places::Stand;
 use ini_text::Section;
@@ -55,17 +55,27 @@ impl DataSheet {
         }
     }
 
+    /// The DefaultValue of an entry as it stands, with its type. `None` where it is missing or empty, of sub 0 of
+    /// a compact object (whose default is its highest sub-index), and where there is no such entry.
+    #[tactic(auto, unfolding(crate::specs::Described::default_text, crate::specs::Described::kind_at))]
+    pub fn default_given(&self, index: u16, sub: u8) -> Option<(Spelling<'_>, DataType)>
+        ensures text { option_map (λ p. p.0) result ≡ default_text self.now.sections index sub }
+        ensures kind { IfSome result (λ p. p.1 ≡ kind_at self.now.sections (index, sub)) }
+    {
+        let Described { default, kind, .. } = self.described(index, sub)?;
+        match default {
+            DefaultText::Written(text) if !text.text().is_empty() => Some((text, kind)),
+            _ => None,
+        }
+    }
+
     /// The DefaultValue of an entry as it stands. `None` where it is missing or empty, of sub 0 of a
     /// compact object (whose default is its highest sub-index), and where there is no such entry.
-    #[tactic(auto, unfolding(crate::specs::Described::default_text))]
     pub fn default_text(&self, index: u16, sub: u8) -> Option<&[u8]>
         ensures { option_copied result ≡ default_text self.now.sections index sub }
     {
-        let described = self.described(index, sub)?;
-        match described.default {
-            DefaultText::Written(text) => unless_empty(text),
-            DefaultText::Count(_count) => None,
-        }
+        let (text, _kind) = self.default_given(index, sub)?;
+        Some(text.text())
     }
 
     /// The ParameterValue of an entry as it stands: of a compact sub its value in `[xxxxValue]`.

@@ -8,13 +8,13 @@ ghost use Rattle.eds_entries.specs.Shown.{default_shown, description_shown};
 use crate::data_sheet::DataSheet;
 use base::Octets;
 use co_dict::Entry;
-use co_values::{DataType, default_value, integer_of, read_number, value_of};
+use co_values::{DataType, Spelling, default_value, integer_of, read_number, spelled_value};
 use eds_entries::{DefaultText, Described, is_not_zero};
 use std::alloc::{AllocError, Global};
 
 /// The limit that a text is for integers of a type at a node.
 #[tactic(auto, unfolding(crate::specs::Entries::limit_at))]
-fn limit_at(kind: DataType, text: &[u8], node: u8) -> Option<i128>
+fn limit_at(kind: DataType, text: &Spelling<'_>, node: u8) -> Option<i128>
     ensures { result ≡ limit_at kind text.now node }
 {
     if kind.is_integer() {
@@ -25,36 +25,36 @@ fn limit_at(kind: DataType, text: &[u8], node: u8) -> Option<i128>
 }
 
 /// The entry that is described, at a node.
-pub(crate) fn entry_of(described: Described<'_>, node: u8) -> Entry
-    ensures { result ≡ entry_by node (description_shown described.entry) }
+pub(crate) fn entry_of(described: &Described<'_>, node: u8) -> Entry
+    ensures { result ≡ entry_by node (description_shown described.now) }
 {
     Entry {
         kind: described.kind,
         access: described.access,
-        low: limit_at(described.kind, described.low, node),
-        high: limit_at(described.kind, described.high, node),
+        low: limit_at(described.kind, &described.low, node),
+        high: limit_at(described.kind, &described.high, node),
         mappable: described.mappable,
     }
 }
 
 /// The value of a default of a type at a node.
-pub(crate) fn default_bytes(
+fn default_bytes(
     alloc: Global,
     kind: DataType,
-    default: DefaultText<'_>,
+    default: &DefaultText<'_>,
     node: u8,
 ) -> Result<Octets, AllocError>
-    ensures { IfOk result (λ bytes. bytes ≡ default_bytes kind (default_shown default.entry) node) }
+    ensures { IfOk result (λ bytes. bytes ≡ default_bytes kind (default_shown default.now) node) }
 {
     match default {
         DefaultText::Written(text) => {
-            let value = match value_of(alloc, kind, text, node)? {
+            let value = match spelled_value(alloc, kind, text, node)? {
                 Some(value) => value,
                 None => default_value(alloc, kind)?,
             };
             Ok(value.bytes)
         }
-        DefaultText::Count(count) => Octets::from_slice(alloc, &[count]),
+        DefaultText::Count(count) => Octets::from_slice(alloc, &[*count]),
     }
 }
 
@@ -66,7 +66,7 @@ impl DataSheet {
         ensures { result ≡ entry_at self.now.sections node index sub }
     {
         let described = self.described(index, sub)?;
-        Some(entry_of(described, node))
+        Some(entry_of(&described, node))
     }
 
     /// The default of an entry at a node: what its text spells there as a value of its type, else 0
@@ -87,7 +87,7 @@ impl DataSheet {
         if !described.kind.is_modelled() {
             return Ok(None);
         }
-        let bytes = default_bytes(self.allocator(), described.kind, described.default, node)?;
+        let bytes = default_bytes(self.allocator(), described.kind, &described.default, node)?;
         Ok(Some(bytes))
     }
 

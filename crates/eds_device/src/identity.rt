@@ -29,18 +29,18 @@ fn is_identity_type(kind: DataType) -> bool
 
 /// The number of a description's default at a node, where its type is UNSIGNED8, UNSIGNED16 or
 /// UNSIGNED32, else 0.
-fn identity_by(node: u8, described: Described<'_>) -> u32
-    ensures { result ≡ identity_by node (description_shown described.entry) }
+fn identity_by(node: u8, described: &Described<'_>) -> u32
+    ensures { result ≡ identity_by node (description_shown described.now) }
 {
     if !is_identity_type(described.kind) {
         return 0;
     }
-    match described.default {
+    match &described.default {
         DefaultText::Written(text) => match integer_of(described.kind, text, node) {
             Some(number) => four_bytes(number),
             None => 0,
         },
-        DefaultText::Count(count) => u32::from(count),
+        DefaultText::Count(count) => u32::from(*count),
     }
 }
 
@@ -50,7 +50,7 @@ impl DataSheet {
         ensures { result ≡ identity_number self.now.sections node index sub }
     {
         match self.described(index, sub) {
-            Some(described) => identity_by(node, described),
+            Some(described) => identity_by(node, &described),
             None => 0,
         }
     }

@@ -6,7 +6,6 @@ mod comparing;
 mod data_sheet;
 mod described;
 mod entries;
-mod fixed;
 mod given;
 mod identity;
 pub mod laws;

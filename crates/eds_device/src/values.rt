@@ -1,13 +1,13 @@
 //! All entries of a device at a node, and the values that they begin with.
-ghost use Rattle.std.specs.Prelude.{◌≡◌, ◌∷◌, [], ℕ, IfOk, OnOk, Some, slice_get};
+ghost use Rattle.std.specs.Prelude.{◌≡◌, IfOk, OnOk};
 ghost use Rattle.std.specs.Option.{option_map_or};
 ghost use Rattle.std.specs.FinMap as map;
 ghost use Rattle.co_dict.specs.Places.{place_cmp};
-ghost use Rattle.eds_places.specs.Places.{pairs_of};
+ghost use Rattle.eds_device.specs.Common.{AreAlike, with_defaults};
 ghost use Rattle.eds_device.specs.Entries.{entry_at, default_at, dummies_of, shape_of, defaults_of};
 
+use crate::common::Alike;
 use crate::data_sheet::DataSheet;
-use crate::fixed::Fixed;
 use co_dict::{Dict, Shape};
 use std::alloc::AllocError;
 
@@ -44,27 +44,20 @@ impl DataSheet {
         }
     }
 
-    /// Sets the default of the entry at a position among the entries, as `add_default` does: mostly it is
-    /// known at every node, and no text is read.
-    fn put_default(
+    /// Sets the defaults of the entries at places.
+    #[tactic(auto, unfolding(crate::specs::Common::with_defaults))]
+    fn add_defaults(
         &self,
         dict: &mut Dict,
         node: u8,
-        position: usize,
-        index: u16,
-        sub: u8,
+        places: &[(u16, u8)],
     ) -> Result<(), AllocError>
-        requires { slice_get (pairs_of self.now.sections) position ≡ Some (index, sub) }
-        ensures { OnOk result (dict.new ≡ option_map_or (map.insert dict.old (index, sub))
-            (default_at self.now.sections node index sub) dict.old) }
+        ensures { OnOk result (dict.new ≡ with_defaults self.now.sections node places.now dict.old) }
     {
-        match self.fixed_at(position) {
-            Fixed::Varies => self.add_default(dict, node, index, sub),
-            Fixed::Absent => Ok(()),
-            Fixed::Short { count, bytes } => {
-                dict.write(index, sub, &bytes[..usize::from(count)])
-            }
+        for place in places {
+            self.add_default(dict, node, place.0, place.1)?;
         }
+        Ok(())
     }
 
     /// For each of the types 0001h to 0007h whether its dummy is allowed.
@@ -95,18 +88,34 @@ impl DataSheet {
         Ok(shape)
     }
 
-    /// The defaults of all entries of a modelled type at a node. Takes time by the number of
-    /// entries, at most 4,096, and the logarithm of it.
-    #[tactic(auto, unfolding(crate::specs::Entries::defaults_of))]
-    pub fn defaults(&self, node: u8) -> Result<Dict, AllocError>
+    /// All defaults over those that are the same at each node.
+    fn defaults_over(&self, alike: &Alike, node: u8) -> Result<Dict, AllocError>
+        requires { AreAlike self.now.sections alike.now }
+        ensures { IfOk result (λ dict. dict ≡ defaults_of self.now.sections node) }
+    {
+        let mut dict = alike.values.copy()?;
+        self.add_defaults(&mut dict, node, &alike.others)?;
+        Ok(dict)
+    }
+
+    /// All defaults, each by itself.
+    fn defaults_of_all(&self, node: u8) -> Result<Dict, AllocError>
         ensures { IfOk result (λ dict. dict ≡ defaults_of self.now.sections node) }
     {
         let mut dict = Dict::new(self.allocator());
-        let mut position = 0;
-        for place in self.pairs() {
-            self.put_default(&mut dict, node, position, place.0, place.1)?;
-            position += 1;
-        }
+        self.add_defaults(&mut dict, node, self.pairs())?;
         Ok(dict)
+    }
+
+    /// The defaults of all entries of a modelled type at a node. Takes time by the number of entries, at most
+    /// 4,096, and the logarithm of it, and memory by their number; where `with_common` found those that are the
+    /// same at each node, by the number of the others.
+    pub fn defaults(&self, node: u8) -> Result<Dict, AllocError>
+        ensures { IfOk result (λ dict. dict ≡ defaults_of self.now.sections node) }
+    {
+        match self.kept_defaults() {
+            Some(alike) => self.defaults_over(alike, node),
+            None => self.defaults_of_all(node),
+        }
     }
 }

@@ -6,7 +6,7 @@ use Rattle.eds_entries.specs.Described.{Default, written, count, Described}
 
 -- a default
 abbrev pub default_shown : DefaultText → Default
-default_shown (Written text) = written text.now
+default_shown (Written text) = written text
 default_shown (Count n) = count n
 
 -- what is said of an entry
@@ -16,6 +16,6 @@ description_shown d = record {
   access = d.access;
   mappable = d.mappable;
   default = default_shown d.default;
-  low = d.low.now;
-  high = d.high.now;
+  low = d.low;
+  high = d.high;
 }

@@ -4,19 +4,19 @@ ghost use Rattle.eds_entries.specs.Described.{highest_sub};
 ghost use Rattle.eds_entries.specs.Shown.{description_shown};
 
 use co_dict::Access;
-use co_values::DataType;
+use co_values::{DataType, Spelling};
 
 /// The default of an entry.
-#[derive(Clone, Copy)]
+#[derive(Drop)]
 pub enum DefaultText<'a> {
     /// The text of DefaultValue, empty where it is missing.
-    Written(&'a [u8]),
+    Written(Spelling<'a>),
     /// The highest sub-index of a compact object, which is the value of its sub 0.
     Count(u8),
 }
 
 /// What an EDS says of an entry, its texts as they stand. A text is empty where it is missing.
-#[derive(Clone, Copy)]
+#[derive(Drop)]
 pub struct Described<'a> {
     pub kind: DataType,
     pub access: Access,
@@ -24,9 +24,9 @@ pub struct Described<'a> {
     pub mappable: bool,
     pub default: DefaultText<'a>,
     /// LowLimit.
-    pub low: &'a [u8],
+    pub low: Spelling<'a>,
     /// HighLimit.
-    pub high: &'a [u8],
+    pub high: Spelling<'a>,
 }
 
 /// What is said of sub 0 of a compact object with this highest sub-index.
@@ -38,7 +38,7 @@ pub fn highest_sub(count: u8) -> Described<'static>
         access: Access::ReadOnly,
         mappable: false,
         default: DefaultText::Count(count),
-        low: &[],
-        high: &[],
+        low: Spelling::empty(),
+        high: Spelling::empty(),
     }
 }

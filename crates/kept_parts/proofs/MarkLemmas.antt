@@ -23,7 +23,7 @@ use Rattle.project_parts.specs.declared.device_at.DeviceAt.{DeviceAt}
 use Rattle.project_parts.specs.Given.{OfDevice, OfNode, OfRoster, OfWindow}
 use Rattle.project_parts.specs.declared.roster_from.RosterFrom.{RosterFrom}
 use Rattle.project_parts.specs.Reached.{of_node, of_nodes}
-use Rattle.project_parts.specs.Touched.{is_of_network, is_of_text, is_planned, is_window, is_touched}
+use Rattle.project_parts.specs.Touched.{is_of_network, is_of_text, is_planned, is_touched}
 use Rattle.part_shelves.specs.declared.device_slot.DeviceSlot.{DeviceSlot}
 use Rattle.project_parts.specs.declared.part.Part.{Part}
 use Rattle.project_parts.specs.declared.part.Part.TheVariants as part
@@ -136,19 +136,19 @@ module _ (h : KeptParts) (name : List ℕ) where
       less (part.Window i) u = let none : is_fresh windows i ≡ false = no_window i in cc
       less part.Diagnostics u = m.unmarked part.Diagnostics u
 
-      others : (q : Part) → is_of_text name q ≡ false → is_window (λ i. true) q ≡ false → is_unmarked h q ≡ true
+      others : (q : Part) → is_of_text name q ≡ false → is_unmarked h q ≡ true
           → is_unmarked after q ≡ true
-      others (part.Device e) other window u =
-          m.others (part.Device e) refl refl
+      others (part.Device e) other u =
+          m.others (part.Device e) refl
           (fresh_at_mark h.devices name e ∙ ap (λ t. not t && fresh_at h.devices e) other ∙ u)
-      others part.Roster other window u = m.others part.Roster refl refl u
-      others part.Diagnostics other window u = m.others part.Diagnostics refl refl u
-      others part.Plan other window u = cc
-      others (part.Writes n) other window u = cc
-      others (part.Concise n) other window u = cc
-      others (part.Dcf n) other window u = cc
-      others (part.Node n) other window u = cc
-      others (part.Window i) other window u = cc
+      others part.Roster other u = m.others part.Roster refl u
+      others part.Diagnostics other u = m.others part.Diagnostics refl u
+      others part.Plan other u = cc
+      others (part.Writes n) other u = cc
+      others (part.Concise n) other u = cc
+      others (part.Dcf n) other u = cc
+      others (part.Node n) other u = cc
+      others (part.Window i) other u = cc
 
 -- the plan and what is made from it, with the roster, what the node of a number has by its device, and the windows
 pub network_marks : (h : KeptParts) (id : ℕ) (middle : KeptParts) (roster : Single RosterFrom) (nodes : Shelved DeviceAt)
@@ -188,18 +188,18 @@ network_marks h id middle roster nodes windows m is_roster same_nodes no_node sa
     less (part.Window i) u = let none : is_fresh windows i ≡ false = no_window i in cc
     less part.Diagnostics u = m.unmarked part.Diagnostics u
 
-    others : (q : Part) → is_of_network id q ≡ false → is_window (λ i. true) q ≡ false → is_unmarked h q ≡ true
+    others : (q : Part) → is_of_network id q ≡ false → is_unmarked h q ≡ true
         → is_unmarked after q ≡ true
-    others (part.Device e) other window u = m.others (part.Device e) refl refl u
-    others part.Plan other window u = cc
-    others (part.Writes n) other window u = cc
-    others (part.Concise n) other window u = cc
-    others (part.Dcf n) other window u = cc
-    others part.Roster other window u = cc
-    others (part.Node n) other window u =
-        no_node n ∙ ap (λ t. not t && is_fresh middle.nodes n) other ∙ m.others (part.Node n) refl refl u
-    others (part.Window i) other window u = cc
-    others part.Diagnostics other window u = m.others part.Diagnostics refl refl u
+    others (part.Device e) other u = m.others (part.Device e) refl u
+    others part.Plan other u = cc
+    others (part.Writes n) other u = cc
+    others (part.Concise n) other u = cc
+    others (part.Dcf n) other u = cc
+    others part.Roster other u = cc
+    others (part.Node n) other u =
+        no_node n ∙ ap (λ t. not t && is_fresh middle.nodes n) other ∙ m.others (part.Node n) refl u
+    others (part.Window i) other u = cc
+    others part.Diagnostics other u = m.others part.Diagnostics refl u
 
 -- marks, and then others
 pub both_marks : (a b : Part → Bool) (old middle new : KeptParts) → Marks a old middle → Marks b middle new
@@ -208,13 +208,12 @@ both_marks a b old middle new x y = record {
   kept = λ q. y.kept q ∙ x.kept q;
   unmarked = λ q u. let then_so = y.unmarked q u in
       let was = x.unmarked q then_so.0 in (was.0, ap (λ t. t || b q) was.1 ∙ then_so.1);
-  others = λ q other window u. let apart = neither (a q) (b q) other in
-      y.others q apart.1 window (x.others q apart.0 window u);
+  others = λ q other u. let apart = neither (a q) (b q) other in y.others q apart.1 (x.others q apart.0 u);
 }
 
 -- nothing is marked
 pub no_marks : (h : KeptParts) → Marks (λ q. false) h h
-no_marks h = record { kept = λ q. refl; unmarked = λ q u. (u, refl); others = λ q other window u. u }
+no_marks h = record { kept = λ q. refl; unmarked = λ q u. (u, refl); others = λ q other u. u }
 
 -- what is known of what is let go is no mark
 pub known_marks : (asked : Part → Bool) (old new : KeptParts) (known : Bool) → Marks asked old new
@@ -222,7 +221,7 @@ pub known_marks : (asked : Part → Bool) (old new : KeptParts) (known : Bool) �
 known_marks asked old new known m = record {
   kept = λ q. held_known new known q ∙ m.kept q;
   unmarked = λ q u. m.unmarked q (sym (fresh_known new known q) ∙ u);
-  others = λ q other window u. fresh_known new known q ∙ m.others q other window u;
+  others = λ q other u. fresh_known new known q ∙ m.others q other u;
 }
 
 -- ---- what is held after an edit
@@ -267,7 +266,7 @@ module _ (old new : KeptParts) where
       below other [] all = All-nil (λ q. is_unmarked new q ≡ true)
       below other (e ∷ es) all =
           All-cons (λ q. is_unmarked new q ≡ true) (of_node e) (map of_node es)
-          (m.others (of_node e) (other e.1.eds) refl
+          (m.others (of_node e) (other e.1.eds)
           (All-head (λ q. is_unmarked old q ≡ true) (of_node e) (map of_node es) all))
           (below other es (All-tail (λ q. is_unmarked old q ≡ true) (of_node e) (map of_node es) all))
 

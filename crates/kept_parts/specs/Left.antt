@@ -12,7 +12,8 @@ use Rattle.kept_parts.specs.declared.kept_parts.KeptParts.{KeptParts}
 abbrev pub left_of : Project → KeptParts → Part → Option Given
 left_of p k = without (is_gone p) (kept_inputs k)
 
--- NOTHING IS HELD of a name of an EDS or a number of a node that the project doesn't have
+-- NO PART IS HELD under a name of an EDS or a number of a node that the project doesn't have; what another part was made
+-- from, as the data sheet that its node had before, stays with it
 abbrev pub HoldsNoneGone : Project → KeptParts → Type 0
 HoldsNoneGone p k = (q : Part) → is_gone p q ≡ true → kept_inputs k q ≡ None
 

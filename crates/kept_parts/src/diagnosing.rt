@@ -10,13 +10,29 @@ ghost use Rattle.kept_parts.specs.Kept.{kept_inputs, IsOf};
 
 use crate::kept_parts::KeptParts;
 use base::Shared;
-use co_diag::diagnostics_by;
+use co_diag::{NodesFound, diagnostics_by};
 use co_project::Project;
 use kept_values::Meter;
 use pdo_plan::Plan;
 use project_parts::{Diagnostics, DiagnosticsNow, Part};
 use project_plan::Library;
-use std::alloc::AllocError;
+use std::alloc::{AllocError, Global};
+
+/// Finds the diagnostics of a library's project, by the plan of its messages, and what was found the last time of nodes
+/// that didn't change.
+fn find(
+    alloc: Global,
+    library: &mut Library<'_>,
+    plan: &Plan,
+    nodes: &mut NodesFound,
+) -> Result<Shared<Diagnostics>, AllocError>
+    requires { plan.now ≡ plan_of_project library.old.project }
+    ensures { IfOk result (λ d. d ≡ diagnostics_of library.old.project) }
+{
+    let list = diagnostics_by(alloc, library, plan, nodes)?;
+    let found = Diagnostics::new(alloc, list)?;
+    Shared::new(alloc, found)
+}
 
 impl KeptParts {
     /// Adds the device of an EDS to a library, where it is kept as it is now.
@@ -48,18 +64,6 @@ impl KeptParts {
         Ok(library)
     }
 
-    /// Finds the diagnostics of a project, by the plan of its messages and the devices that are kept of it.
-    fn find(&self, project: &Project, plan: &Plan) -> Result<Shared<Diagnostics>, AllocError>
-        requires is_of { IsOf project.now self.now }
-        requires plan { plan.now ≡ plan_of_project project.now }
-        ensures { IfOk result (λ d. d ≡ diagnostics_of project.now) }
-    {
-        let mut library = self.library(project)?;
-        let list = diagnostics_by(self.alloc, &mut library, plan)?;
-        let found = Diagnostics::new(self.alloc, list)?;
-        Shared::new(self.alloc, found)
-    }
-
     /// Whether diagnostics of this project are kept: without a mark they are, else where the project that they are
     /// of is equal.
     fn has_diagnostics(&self, project: &Project) -> bool
@@ -89,7 +93,8 @@ impl KeptParts {
             self.found.unmark();
             return Ok(());
         }
-        let found = self.find(project, plan.get())?;
+        let mut library = self.library(project)?;
+        let found = find(self.alloc, &mut library, plan.get(), &mut self.nodes_found)?;
         self.found
             .build(self.alloc, DiagnosticsNow { project, found }, meter)?;
         Ok(())

@@ -12,6 +12,7 @@ ghost use Rattle.kept_parts.specs.Kept.{kept_inputs, IsCurrent, IsOf};
 ghost use Rattle.kept_parts.specs.Left.{left_of, IsSwept};
 
 use base::{ListedBytes, ListedText, Shared};
+use co_diag::NodesFound;
 use co_project::Project;
 use image_parts::Roster;
 use kept_values::{Memo, Meter, Shelf};
@@ -38,6 +39,9 @@ pub struct KeptParts {
     pub(crate) windows: WindowShelf,
     pub(crate) found: Memo<DiagnosticsFrom, Shared<Diagnostics>>,
 
+    /// What diagnostics found of nodes by themselves the last time: no part, and of no answer.
+    pub(crate) nodes_found: NodesFound,
+
     /// Whether it is known that nothing is held of what the project doesn't have.
     pub(crate) swept: bool,
 }
@@ -59,6 +63,7 @@ impl KeptParts {
             nodes: Shelf::new(alloc),
             windows: WindowShelf::new(alloc),
             found: Memo::new(),
+            nodes_found: NodesFound::new(alloc),
             swept: false,
         }
     }

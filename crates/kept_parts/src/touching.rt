@@ -75,12 +75,7 @@ impl KeptParts {
     fn touch_time(&mut self, time: u32)
         ensures { Marks (is_window (λ i. is_window_of i time)) self.old self.new }
     {
-        let i = u64::from(time) / WINDOW;
-        if i < 1024 {
-            self.windows.mark(i as u16);
-        } else {
-            self.windows.mark_all();
-        }
+        self.windows.mark(u64::from(time) / WINDOW);
     }
 
     /// Marks the window in which the event of a number lies.
@@ -130,7 +125,7 @@ impl KeptParts {
     pub fn touch(&mut self, edit: &Edit, project: &Project)
         ensures held { (q : Part) → kept_inputs self.new q ≡ kept_inputs self.old q }
 
-        // These have a mark afterwards, and those that had one; no other has, but windows may.
+        // These have a mark afterwards, and those that had one; no other has.
         ensures marks { Marks (is_touched project.now edit.now) self.old self.new }
 
         // What is held of the project is held of it still, and of the project that the edit makes of it.

@@ -7,6 +7,7 @@ ghost use Rattle.network_image.specs.Image.{window_steps};
 ghost use Rattle.network_image.specs.Steps.{timed_step_of};
 
 use crate::devices_now::DevicesNow;
+use base::Shared;
 use co_project::Project;
 use co_scenario::{Event, Script, Step, TimedStep};
 use part_shelves::DeviceShelf;
@@ -24,7 +25,11 @@ fn step_of(alloc: Global, nodes: &DevicesNow<'_>, event: &Event) -> Result<Optio
             text,
         } => {
             let bytes = nodes.bytes_set(alloc, *node, *index, *sub, text.as_slice())?;
-            Ok(bytes.map(|bytes| Step::Set {
+            let Some(bytes) = bytes else {
+                return Ok(None);
+            };
+            let bytes = Shared::new(alloc, bytes)?;
+            Ok(Some(Step::Set {
                 node: *node,
                 index: *index,
                 sub: *sub,
@@ -72,7 +77,7 @@ fn steps_of(
     ensures { IfOk result (λ steps. steps.items
         ≡ filter_map (timed_step_of (shape_of_node nodes.now.project.now) script.now) moments.now) }
 {
-    let mut steps = Vec::new(alloc);
+    let mut steps = Vec::with_capacity(alloc, moments.len())?;
     for moment in moments {
         if let Some(step) = timed_step_of(alloc, nodes, script, *moment)? {
             steps.push(step)?;

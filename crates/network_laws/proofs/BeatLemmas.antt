@@ -32,21 +32,28 @@ on_time_next image network t s h =
     h
 
 module _ (image : Image) (t : ℕ) where
-  on_time : IsOnTime (roster_of (image Roster)) t (bus_at image t).manager
+  abbrev network : Network
+  network = roster_of (image Roster)
+
+  pub on_time : IsOnTime network t (bus_at image t).manager
   on_time = at_each_moment image (λ u s. IsOnTime (roster_of (image Roster)) u s.manager) (on_time_on image)
       (on_time_next image (roster_of (image Roster))) t
 
-  pub due_at_multiples_of_run : (message : PeriodicMessage)
-      → Contains (messages (roster_of (image Roster)).sync_counter) message
-      → Contains (due_messages t (bus_at image t).manager.periodic) message
-      ↔ IsMultiple t (period_of (roster_of (image Roster)) message)
-  due_at_multiples_of_run message one =
-      due_at_multiples (roster_of (image Roster)) t (bus_at image t).manager message on_time one
+  abbrev IsDue : PeriodicMessage → Type 0
+  IsDue message = Contains (due_messages t (bus_at image t).manager.periodic) message
 
-  pub heartbeat_at_multiples : Contains (due_messages t (bus_at image t).manager.periodic) Heartbeat
-      ↔ IsMultiple t (1000 * (roster_of (image Roster)).heartbeat_ms)
-  heartbeat_at_multiples = due_at_multiples_of_run Heartbeat (0, omega arith, refl)
+  pub due_at_multiples_of_run : (message : PeriodicMessage) → IsDue message
+      ↔ (Contains (messages network.sync_counter) message × IsMultiple t (period_of network message))
+  due_at_multiples_of_run message = due_at_multiples network t (bus_at image t).manager message on_time
 
-  pub sync_at_multiples : Contains (due_messages t (bus_at image t).manager.periodic)
-      (Sync (roster_of (image Roster)).sync_counter) ↔ IsMultiple t (roster_of (image Roster)).sync_us
-  sync_at_multiples = due_at_multiples_of_run (Sync (roster_of (image Roster)).sync_counter) (1, omega arith, refl)
+  -- a message of the network
+  at_its_multiples : (message : PeriodicMessage) → Contains (messages network.sync_counter) message
+      → IsDue message ↔ IsMultiple t (period_of network message)
+  at_its_multiples message one = let due = due_at_multiples_of_run message in
+      (λ h. (due.0 h).1, λ multiple. due.1 (one, multiple))
+
+  pub heartbeat_at_multiples : IsDue Heartbeat ↔ IsMultiple t (1000 * network.heartbeat_ms)
+  heartbeat_at_multiples = at_its_multiples Heartbeat (0, omega arith, refl)
+
+  pub sync_at_multiples : IsDue (Sync network.sync_counter) ↔ IsMultiple t network.sync_us
+  sync_at_multiples = at_its_multiples (Sync network.sync_counter) (1, omega arith, refl)

@@ -1,11 +1,11 @@
 //! Laws of a bus, each a function whose contract is the law.
 
-ghost use Rattle.std.specs.Prelude.{◌≡◌, ◌≢◌, ◌↔◌, ◌<◌, ◌+◌, ◌*◌, ◌∷◌, [], ℕ, All, Some, None, filter};
+ghost use Rattle.std.specs.Prelude.{◌≡◌, ◌≢◌, ◌↔◌, ◌<◌, ◌+◌, ◌*◌, ◌∷◌, ◌++◌, [], ℕ, All, List, Some, None, filter};
 ghost use Rattle.image_parts.specs.Agenda.{IsSameUnder};
 ghost use Rattle.image_parts.specs.Alike.{AreAlike};
 ghost use Rattle.image_parts.specs.Asking.{Agrees, Answer, outcome, reads, turns};
 ghost use Rattle.can_bus.specs.Spans.{span};
-ghost use Rattle.bus_devices.specs.Steps.{has_time, steps_due, steps_left};
+ghost use Rattle.bus_devices.specs.Steps.{has_time, steps_due, steps_from, steps_left, LieFrom};
 ghost use Rattle.can_bus.specs.Bus.{delivered_of, instant, power_on, after_arbitration, after_window_start, Bus};
 ghost use Rattle.can_bus.specs.Dues.{IsAtRest, IsJustBefore, due_run, moments, next_due};
 ghost use Rattle.can_bus.specs.Lines.{line_time};
@@ -16,8 +16,9 @@ ghost use Rattle.can_bus.specs.declared.slot.Slot.{Slot as Sent};
 ghost use Rattle.can_frame.specs.declared.contender.Contender.{Contender as Bid};
 ghost use Rattle.can_frame.specs.declared.waiting.Waiting.{Waiting as Queued};
 ghost use Rattle.co_device.specs.Device.{Device};
+ghost use Rattle.co_scenario.specs.declared.timed_step.TimedStep.{TimedStep};
 ghost use Rattle.image_parts.specs.Contents.{Image};
-ghost use Rattle.image_parts.specs.Images.{IsImage};
+ghost use Rattle.image_parts.specs.Images.{AreInOrder, IsImage};
 ghost use Rattle.image_parts.specs.declared.part.Part.TheVariants as part;
 ghost use Rattle.device_agenda.specs.Agenda.{hears};
 
@@ -112,6 +113,21 @@ pub fn windows_start_at_whole_multiples()
     ensures asked { (image : Image) (i : ℕ) (s : Bus) → s.window ≡ 10000 * i
         → reads (after_window_start (10000 * i) s) image ≡ (part.Events i, image (part.Events i)) ∷ [] }
     ensures quiet { (t : ℕ) (s : Bus) → t ≢ s.window → after_window_start t s ≡ Answer s }
+{}
+
+/// Of events in order of time, none of which lies before a moment, those of the moment are due, and none of them
+/// is left.
+#[tactic(auto, using(bus_devices::proofs::StepLemmas::all_of_them, bus_devices::proofs::StepLemmas::due_then, bus_devices::proofs::StepLemmas::left_later, bus_devices::proofs::StepLemmas::left_in_order, bus_devices::proofs::StepLemmas::due_of_all, bus_devices::proofs::StepLemmas::left_of_all))]
+pub fn an_event_that_has_run_is_forgotten()
+    ensures all { (t : ℕ) (steps : List TimedStep) → steps_due t steps ++ steps_left t steps ≡ steps }
+    ensures due { (t : ℕ) (steps : List TimedStep) → All (λ (event : TimedStep). event.time ≡ t) (steps_due t steps) }
+    ensures left { (t : ℕ) (steps : List TimedStep) → AreInOrder steps → LieFrom t steps
+        → LieFrom (t + 1) (steps_left t steps) }
+    ensures order { (t : ℕ) (steps : List TimedStep) → AreInOrder steps → AreInOrder (steps_left t steps) }
+    ensures due_of_all { (t : ℕ) (steps : List TimedStep) → AreInOrder steps
+        → steps_due t (steps_from t steps) ≡ filter (has_time t) steps }
+    ensures left_of_all { (t : ℕ) (steps : List TimedStep) → AreInOrder steps
+        → steps_left t (steps_from t steps) ≡ steps_from (t + 1) steps }
 {}
 
 /// Under every image the next window starts at its moment, and the events that have not run are in order

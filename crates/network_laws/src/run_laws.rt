@@ -15,7 +15,7 @@ ghost use Rattle.image_parts.specs.Contents.{roster_of, Image};
 ghost use Rattle.image_parts.specs.Images.{IsImage};
 ghost use Rattle.image_parts.specs.declared.part.Part.TheVariants as part;
 ghost use Rattle.sdo_client.specs.declared.client_transfer.ClientTransfer.{ClientTransfer as Transfer};
-ghost use Rattle.nmt_boot.specs.Beats.{IsMultiple, due_messages};
+ghost use Rattle.nmt_boot.specs.Beats.{IsMultiple, IsOnTime, due_messages};
 ghost use Rattle.nmt_boot.specs.Periodic.{messages, period_of};
 ghost use Rattle.nmt_boot.specs.declared.periodic_message.PeriodicMessage.{PeriodicMessage as Message};
 ghost use Rattle.nmt_boot.specs.declared.periodic_message.PeriodicMessage.TheVariants.{Heartbeat, Sync};
@@ -38,13 +38,16 @@ pub fn a_run_goes_instant_by_instant()
     ensures next { (image : Image) (t : ℕ) → bus_at image (t + 1) ≡ (outcome (instant t (bus_at image t)) image).0 }
 {}
 
-/// At every moment of a run what the manager sends periodically is due exactly at the whole multiples above 0 of its
-/// period by the roster: its heartbeat at those of the heartbeat time, and its SYNC at those of the SYNC period.
+/// At every moment of a run the manager has exactly the periodic messages of the roster, in their order, each with its
+/// period and its next moment: the first whole multiple of that period from there on. So what is due at a moment are
+/// those of which it is a whole multiple above 0 of the period, and no other: the heartbeat at those of the heartbeat
+/// time, and SYNC at those of the SYNC period.
 pub fn periodic_messages_are_due_at_whole_multiples()
+    ensures all { (image : Image) (t : ℕ) → IsOnTime (roster_of (image part.Roster)) t (bus_at image t).manager }
     ensures each { (image : Image) (t : ℕ) (message : Message)
-        → Contains (messages (roster_of (image part.Roster)).sync_counter) message
         → Contains (due_messages t (bus_at image t).manager.periodic) message
-        ↔ IsMultiple t (period_of (roster_of (image part.Roster)) message) }
+        ↔ (Contains (messages (roster_of (image part.Roster)).sync_counter) message
+        × IsMultiple t (period_of (roster_of (image part.Roster)) message)) }
     ensures heartbeat { (image : Image) (t : ℕ)
         → Contains (due_messages t (bus_at image t).manager.periodic) Heartbeat
         ↔ IsMultiple t (1000 * (roster_of (image part.Roster)).heartbeat_ms) }

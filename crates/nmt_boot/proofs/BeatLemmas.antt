@@ -190,18 +190,26 @@ module _ (network : Roster) (t : ℕ) where
     one_comes m p h e is =
         subst (λ (x : PeriodicMessage). IsMultiple t (period_of network x)) (sym h.message ∙ is) ((due_at m p h).0 e)
 
+    -- it is one of these, and it comes
+    abbrev Sent : List PeriodicMessage → Type 0
+    Sent ms = Contains ms message × Comes
+
+    of_more : (m : PeriodicMessage) (ms : List PeriodicMessage) → Sent ms → Sent (m ∷ ms)
+    of_more m ms h = let one = h.0 in ((suc one.0, omega (arith, one.1), one.2), h.1)
+
     due_comes : (ms : List PeriodicMessage) (ps : List Periodic) → AllZip (IsTimed network t) ms ps
-        → (k : ℕ) → k < length (due_messages t ps) → slice_index_or (due_messages t ps) k message ≡ message → Comes
+        → (k : ℕ) → k < length (due_messages t ps) → slice_index_or (due_messages t ps) k message ≡ message → Sent ms
     due_comes [] [] h k within is = absurd (omega (arith, within))
     due_comes [] (p ∷ ps) h k within is = absurd h
     due_comes (m ∷ ms) [] h k within is = absurd h
     due_comes (m ∷ ms) (p ∷ ps) h k within is =
-        by (λ j among e. due_comes ms ps h.1 j among e) (is_due t p.next) refl k within is
+        by (λ j among e. of_more m ms (due_comes ms ps h.1 j among e)) (is_due t p.next) refl k within is
       where
-        by : ((j : ℕ) → j < length (due_messages t ps) → slice_index_or (due_messages t ps) j message ≡ message → Comes)
+        by : ((j : ℕ) → j < length (due_messages t ps) → slice_index_or (due_messages t ps) j message ≡ message
+            → Sent (m ∷ ms))
             → (b : Bool) → is_due t p.next ≡ b → (k : ℕ) → k < length (DueOf b p ps)
-            → slice_index_or (DueOf b p ps) k message ≡ message → Comes
-        by rest true e zero within is = one_comes m p h.0 e is
+            → slice_index_or (DueOf b p ps) k message ≡ message → Sent (m ∷ ms)
+        by rest true e zero within is = ((0, omega arith, sym h.0.message ∙ is), one_comes m p h.0 e is)
         by rest true e (suc k) within is = rest k (omega (arith, within)) is
         by rest false e k within is = rest k within is
 
@@ -225,9 +233,10 @@ module _ (network : Roster) (t : ℕ) where
         by false rest = rest
 
   pub due_at_multiples : (m : Manager) (message : PeriodicMessage) → IsOnTime network t m
-      → Contains (messages network.sync_counter) message
-      → Contains (due_messages t m.periodic) message ↔ IsMultiple t (period_of network message)
-  due_at_multiples m message h one = (
+      → Contains (due_messages t m.periodic) message
+      ↔ (Contains (messages network.sync_counter) message × IsMultiple t (period_of network message))
+  due_at_multiples m message h = (
     λ due. due_comes message (messages network.sync_counter) m.periodic h due.0 due.1 due.2,
-    comes_due message (messages network.sync_counter) m.periodic h one.0 one.1 one.2,
+    λ sent. let one = sent.0 in
+        comes_due message (messages network.sync_counter) m.periodic h one.0 one.1 one.2 sent.1,
   )

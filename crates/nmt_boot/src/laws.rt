@@ -59,9 +59,9 @@ pub fn a_frame_changes_its_node_alone()
         → node_at (outcome (after_frame t frame m) image).0.nodes j ≡ node_at m.nodes j }
 {}
 
-/// What the manager sends periodically, as its heartbeat and SYNC, is due at the whole multiples of its period above 0,
-/// and at no other moment: it is set so at power-on, and after each frame, each command, and the timers of each moment.
-/// Where it is due its frame waits then.
+/// What the manager sends periodically, its heartbeat and SYNC and nothing else, is due at the whole multiples of its
+/// period above 0, and at no other moment: it is set so at power-on, and after each frame, each command, and the timers
+/// of each moment. Where it is due its frame waits then.
 #[tactic(auto, using(crate::proofs::BeatLemmas::on_time_first, crate::proofs::BeatLemmas::timers_on_time, crate::proofs::CounterLemmas::queued))]
 pub fn periodic_messages_come_at_whole_multiples()
     ensures first { (network : Network) → IsOnTime network 0 (manager_at_power_on network) }
@@ -72,8 +72,8 @@ pub fn periodic_messages_come_at_whole_multiples()
     ensures timers { (network : Network) (t : ℕ) (m : State) → IsOnTime network t m
         → IsOnTime network (t + 1) (timers t m).0 }
     ensures due { (network : Network) (t : ℕ) (m : State) (message : Message) → IsOnTime network t m
-        → Contains (messages network.sync_counter) message
-        → Contains (due_messages t m.periodic) message ↔ IsMultiple t (period_of network message) }
+        → Contains (due_messages t m.periodic) message
+        ↔ (Contains (messages network.sync_counter) message × IsMultiple t (period_of network message)) }
     ensures queued { (network : Network) (t : ℕ) (m : State) (message : Message) → IsOnTime network t m
         → Contains (messages network.sync_counter) message → IsMultiple t (period_of network message)
         → Contains (timers t m).0.waiting

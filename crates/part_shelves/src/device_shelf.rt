@@ -219,6 +219,7 @@ impl DeviceShelf {
         ensures err { OnErr result (self.new ≡ self.old) }
         ensures counted { OnOk result (Refreshes
             (text_kept self.old name.now) (text_at project.now.texts name.now) meter.old meter.new) }
+        ensures uncounted { OnErr result (meter.new ≡ meter.old) }
         ensures rises { Rises meter.old meter.new }
     {
         if self.is_fresh(name) {

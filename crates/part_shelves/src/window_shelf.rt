@@ -1,12 +1,12 @@
 //! The windows of a scenario, each with its mark.
 ghost use Rattle.std.specs.Prelude.{◌≡◌, ◌↔◌, ◌==◌, ◌||◌, ◌&&◌, ◌<◌, not, ℕ, false, None, Some, OnOk, OnErr};
-ghost use Rattle.std.specs.Prelude.{if◌then◌else◌, IsTrue, option_copied};
+ghost use Rattle.std.specs.Prelude.{if◌then◌else◌, IfOk, IsTrue, option_copied};
 ghost use Rattle.kept_values.specs.Shelved.{is_fresh, kept_at};
 ghost use Rattle.kept_values.specs.Work.{Refreshes, Rises};
 ghost use Rattle.part_shelves.specs.Busy.{has_steps};
 
 use base::Shared;
-use co_scenario::{TimedStep, same_steps};
+use co_scenario::{TimedStep, same_steps, share_values};
 use image_parts::Window;
 use kept_values::Meter;
 use std::alloc::{AllocError, Global};
@@ -59,13 +59,14 @@ impl WindowShelf {
         self.fresh[usize::from(i)]
     }
 
-    /// Sets the mark at a number. What is kept stays. Takes constant time.
-    pub fn mark(&mut self, i: u16)
-        requires { i < 1024 }
+    /// Sets the mark at a number; from 1024 on there is one always. What is kept stays. Takes constant time.
+    pub fn mark(&mut self, i: u64)
         ensures kept { self.new.kept ≡ self.old.kept }
         ensures fresh { (q : ℕ) → is_fresh self.new q ≡ (not (q == i) && is_fresh self.old q) }
     {
-        self.fresh[usize::from(i)] = false;
+        if i < 1024 {
+            self.fresh[i as usize] = false;
+        }
     }
 
     /// Sets the mark at each number. What is kept stays. Takes constant time: it writes 1,024 bytes.
@@ -124,9 +125,21 @@ impl WindowShelf {
         }
     }
 
+    /// These steps, with the values that are kept at a number: where a kept step of the same time and number sets an
+    /// equal value, they share it.
+    fn sharing(&self, i: u16, steps: Vec<TimedStep>) -> Result<Vec<TimedStep>, AllocError>
+        ensures { IfOk result (λ sharing. sharing.items ≡ steps.items) }
+    {
+        let mut steps = steps;
+        if let Some(window) = self.value(i) {
+            share_values(steps.as_mut_slice(), window.get().steps())?;
+        }
+        Ok(steps)
+    }
+
     /// Keeps the steps of now at a number and takes the mark there away. A window of other steps is let go,
-    /// and the meter is told. Takes time by the logarithm of the number of kept windows and by the number
-    /// of steps; want of memory is the only error, and changes nothing.
+    /// and the meter is told; what both set alike is kept once. Takes time by the logarithm of the number of kept
+    /// windows and by the number of steps; want of memory is the only error, and changes nothing.
     pub fn keep(
         &mut self,
         alloc: Global,
@@ -147,6 +160,7 @@ impl WindowShelf {
             self.clear(i);
             return Ok(());
         }
+        let steps = self.sharing(i, steps)?;
         let window = Shared::new(alloc, Window::new(steps))?;
         self.insert(i, window)?;
         self.clear(i);

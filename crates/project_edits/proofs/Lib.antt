@@ -1,2 +1,4 @@
 mod ControlLemmas
+pub mod EdsLemmas
 pub mod EventLemmas
+pub mod TextLemmas

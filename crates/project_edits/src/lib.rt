@@ -1,6 +1,8 @@
 //! What edits of a project are and keep to, why a command is refused, and edits as the lines that are read as them.
 #![tactic(auto)]
 
+mod block;
+mod command;
 mod edit;
 mod event_lines;
 mod fault;
@@ -12,6 +14,7 @@ mod printing;
 mod script_version;
 mod written;
 
+pub use command::Command;
 pub use edit::Edit;
 pub use event_lines::write_event;
 pub use fault::{EditFault, refusal};

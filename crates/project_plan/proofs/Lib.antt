@@ -3,6 +3,7 @@ pub mod NamedLemmas
 pub mod NetworkLemmas
 pub mod WrittenLemmas
 pub mod WantedLemmas
+pub mod SentLemmas
 mod AloneLemmas
 mod DcfLemmas
 mod FileLemmas

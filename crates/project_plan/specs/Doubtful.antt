@@ -4,9 +4,8 @@ use Rattle.std.specs.Prelude.{ℕ, ◌&&◌, ◌||◌, Bool, false, List, filter
 use Rattle.std.specs.Option.{option_map_or}
 use Rattle.ini_text.specs.Content.{Section}
 use Rattle.co_values.specs.declared.data_type.DataType.{DataType}
-use Rattle.co_values.specs.Number.{number}
 use Rattle.co_values.specs.Types.{is_modelled}
-use Rattle.co_values.specs.Values.{value}
+use Rattle.co_values.specs.Values.{may_vary, value}
 use Rattle.eds_device.specs.Described.{default_text, kind_at}
 use Rattle.eds_device.specs.Places.{pairs_of}
 
@@ -14,9 +13,10 @@ use Rattle.eds_device.specs.Places.{pairs_of}
 abbrev pub spells_none : ℕ → List ℕ → DataType → Bool
 spells_none node text kind = is_modelled kind && is_none (value kind text node)
 
--- a default that doesn't spell a number, or no value at the first node; a number is the same at each node
+-- a default that may spell another value at another node, or no value at the first one
 unfoldable pub is_doubtful : List Section → ℕ × ℕ → Bool
-is_doubtful ss place = option_map_or (λ text. is_none (number text) || is_none (value (kind_at ss place) text 1))
+is_doubtful ss place = option_map_or
+    (λ text. may_vary (kind_at ss place) text || is_none (value (kind_at ss place) text 1))
     (default_text ss place.0 place.1) false
 
 abbrev pub doubtful_places : List Section → List (ℕ × ℕ)

@@ -1,17 +1,11 @@
 -- The entries of a data sheet that have to be looked at at each of its nodes.
-use Rattle.std.specs.Prelude.{◌≡◌, IfSome}
+use Rattle.std.specs.Prelude.{◌≡◌}
 use Rattle.ini_text.specs.Content.{Content as DataSheet}
-use Rattle.co_project.specs.Project.{Content}
 use Rattle.project_plan.specs.declared.sheet_entries.SheetEntries.{SheetEntries}
 use Rattle.project_plan.specs.Doubtful.{doubtful_places}
 use Rattle.project_plan.specs.GivenParameters.{given_places}
-use Rattle.project_plan.specs.Network.{device_at}
 
 -- these are the entries that the data sheet of a device gives a parameter, and those whose default is doubtful
 pub record IsSheetOf (device : DataSheet) (sheet : SheetEntries) : Type 0 where
   pub given : sheet.given.items ≡ given_places device.sections
   pub doubtful : sheet.doubtful.items ≡ doubtful_places device.sections
-
--- the same of the device of its name
-abbrev pub IsSheet : Content → SheetEntries → Type 0
-IsSheet p sheet = IfSome (device_at p sheet.name) (λ (d : DataSheet). IsSheetOf d sheet)

@@ -1,7 +1,8 @@
 -- The values of a node that its diagnostics want once it is configured, and no others.
 use Rattle.std.specs.Prelude.{ℕ, ◌+◌, ◌==◌, ◌&&◌, ◌||◌, Bool, if◌then◌else◌, List, [], ◌∷◌, Option, None}
-use Rattle.std.specs.Prelude.{option_and_then}
+use Rattle.std.specs.Prelude.{is_some, option_and_then}
 use Rattle.std.specs.FinMap.{from_entries, insert}
+use Rattle.std.specs.List.{list_any}
 use Rattle.std.specs.Option.{option_map_or, option_or}
 use Rattle.std.specs.Result.{result_ok}
 use Rattle.byteorder.specs.Endian.{little_bytes}
@@ -63,6 +64,14 @@ abbrev pub with_tpdos : Values → ℕ → List PlannedMessage → Values
 with_tpdos values node [] = values
 with_tpdos values node (m ∷ ms) = option_map_or (with_tpdo (with_tpdos values node ms))
     (option_and_then (tpdo_of node) (clean_of m.outcome)) (with_tpdos values node ms)
+
+-- a node sends a message of a plan, if that is clean
+abbrev pub is_sent_by : ℕ → PlannedMessage → Bool
+is_sent_by node m = is_some (option_and_then (tpdo_of node) (clean_of m.outcome))
+
+-- a node sends one of these
+abbrev pub sends : List PlannedMessage → ℕ → Bool
+sends plan node = list_any (is_sent_by node) plan
 
 -- the values that are wanted of a node once it is configured by a plan
 abbrev pub wanted_by : List PlannedMessage → ℕ × Member → Values

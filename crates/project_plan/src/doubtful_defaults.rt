@@ -3,36 +3,27 @@ ghost use Rattle.std.specs.Prelude.{◌≡◌, IfOk, filter};
 ghost use Rattle.eds_device.specs.Places.{pairs_of};
 ghost use Rattle.project_plan.specs.Doubtful.{doubtful_places, is_doubtful, spells_none};
 
-use co_values::{DataType, read_number, value_of};
+use co_values::{DataType, Spelling, is_spelled};
 use eds_device::DataSheet;
 use std::alloc::{AllocError, Global};
 
 /// Whether a type is modelled and a text spells none of its values at a node.
-pub fn spells_none(alloc: Global, id: u8, text: &[u8], kind: DataType) -> Result<bool, AllocError>
-    ensures { IfOk result (λ none. none ≡ spells_none id text.now kind) }
+pub fn spells_none(id: u8, text: &Spelling<'_>, kind: DataType) -> bool
+    ensures { result ≡ spells_none id text.now kind }
 {
-    if !kind.is_modelled() {
-        return Ok(false);
-    }
-    match value_of(alloc, kind, text, id)? {
-        Some(_value) => Ok(false),
-        None => Ok(true),
-    }
+    kind.is_modelled() && !is_spelled(kind, text, id)
 }
 
-/// Whether the default of an entry may spell no value at some node. One that spells a number and a value at
-/// one node spells the same at each.
-fn is_doubtful(alloc: Global, device: &DataSheet, index: u16, sub: u8) -> Result<bool, AllocError>
-    ensures { IfOk result (λ doubtful. doubtful ≡ is_doubtful device.now.sections (index, sub)) }
+/// Whether the default of an entry may spell no value at some node. One that spells a value at one node, and no
+/// other at another, spells one at each.
+#[tactic(auto, unfolding(crate::specs::Doubtful::is_doubtful))]
+fn is_doubtful(device: &DataSheet, index: u16, sub: u8) -> bool
+    ensures { result ≡ is_doubtful device.now.sections (index, sub) }
 {
-    let Some(text) = device.default_text(index, sub) else {
-        return Ok(false);
-    };
-    if read_number(text).is_none() {
-        return Ok(true);
+    match device.default_given(index, sub) {
+        Some((text, kind)) => text.may_vary(kind) || !is_spelled(kind, &text, 1),
+        None => false,
     }
-    let value = value_of(alloc, device.kind(index, sub), text, 1)?;
-    Ok(value.is_none())
 }
 
 /// The entries of a device whose default may spell no value at some node, by index and sub-index: each other
@@ -45,7 +36,7 @@ pub(crate) fn doubtful_places(
 {
     let mut places = Vec::new(alloc);
     for place in device.pairs() {
-        if is_doubtful(alloc, device, place.0, place.1)? {
+        if is_doubtful(device, place.0, place.1) {
             places.push(*place)?;
         }
     }

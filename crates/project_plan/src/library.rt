@@ -96,8 +96,11 @@ impl<'a> Library<'a> {
         Ok(())
     }
 
-    fn shared(&self, name: &[u8]) -> Option<&Shared<DataSheet>>
+    /// The device of an EDS, if it was read, for others to hold.
+    pub fn shared(&self, name: &[u8]) -> Option<&Shared<DataSheet>>
         ensures device { option_copied result ≡ map.get self.now.devices name.now }
+
+        // It is what the text of that name describes.
         ensures described { IfSome result (λ device. device_at self.now.project name.now ≡ Some device.now) }
     {
         self.devices.get(name)

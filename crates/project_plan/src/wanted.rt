@@ -6,15 +6,13 @@ ghost use Rattle.cia301.specs.CobIds.{no_rtr_bit};
 ghost use Rattle.co_values.specs.Values.{longest_value};
 ghost use Rattle.pdo_links.specs.Writes.{tpdo_of};
 ghost use Rattle.pdo_plan.specs.Plan.{clean_of};
-ghost use Rattle.project_plan.specs.Network.{member_of};
 ghost use Rattle.project_plan.specs.Wanted.{is_tpdo_cob_id, is_wanted, parameter_value, value_given, wanted_value};
-ghost use Rattle.project_plan.specs.Wanted.{values_given, with_tpdo, with_tpdos, wanted_by};
+ghost use Rattle.project_plan.specs.Wanted.{is_sent_by, sends, values_given, with_tpdo, with_tpdos};
 
 use base::Octets;
 use byteorder::{ByteOrder, LittleEndian};
 use cia301::{CobId, is_communication_object, is_of_tpdos, tpdo_object};
 use co_dict::Dict;
-use co_project::Node;
 use eds_device::DataSheet;
 use node_parameters::{Params, judge, parameter_text};
 use pdo_plan::{Clean, Outcome, Plan, PlannedMessage};
@@ -98,8 +96,12 @@ fn add_wanted(
     }
 }
 
-/// What is given to all entries whose value is wanted.
-fn values_given(
+/// What is given to the entries whose value diagnostics want of a node once it is configured: the COB-IDs of its
+/// TPDOs, its heartbeat consumers, its heartbeat time and its synchronous counter overflow value. Each has what its
+/// parameter gives it, else its default.
+///
+/// Takes time by the number of entries, memory by that of the values.
+pub fn values_given(
     alloc: Global,
     id: u8,
     params: &Params,
@@ -157,21 +159,33 @@ fn write_messages(values: &mut Dict, messages: &[PlannedMessage], id: u8) -> Res
     Ok(())
 }
 
-/// The values that are wanted of a node once it is configured by a plan: the COB-IDs of its TPDOs, its heartbeat
-/// consumers, its heartbeat time and its synchronous counter overflow value. Each is as among all its values: that
-/// of the message that is sent by the TPDO, else what its parameter gives the entry, else its default.
-///
-/// Takes time by the number of entries and messages, memory by that of the values.
-pub fn wanted_values(
-    alloc: Global,
-    plan: &Plan,
-    id: u8,
-    node: &Node,
-    device: &DataSheet,
-) -> Result<Dict, AllocError>
-    ensures { IfOk result (λ values. values ≡ wanted_by plan.now (member_of id node.now device.now)) }
+/// Whether a node sends a message, if that is clean.
+fn is_sent_by(planned: &PlannedMessage, id: u8) -> bool
+    ensures { result ≡ is_sent_by id planned.now }
 {
-    let mut values = values_given(alloc, id, &node.params, device)?;
+    match &planned.outcome {
+        Outcome::Planned(clean) => clean.message.node == id,
+        Outcome::Faulty(_faults) => false,
+    }
+}
+
+/// Whether a node sends one of the clean messages of a plan. Takes time by the number of messages.
+pub fn sends(plan: &Plan, id: u8) -> bool
+    ensures { result ≡ sends plan.now id }
+{
+    plan.messages()
+        .iter()
+        .any(|planned| is_sent_by(planned, id))
+}
+
+/// The values that are wanted of a node once it is configured by a plan, by those that `values_given` finds: each is as
+/// among all its values, and the COB-ID of a TPDO that of the message that is sent by it.
+///
+/// Takes time by the number of messages, memory by that of those that the node sends.
+pub fn wanted_values(given: &Dict, plan: &Plan, id: u8) -> Result<Dict, AllocError>
+    ensures { IfOk result (λ values. values ≡ with_tpdos given.now id plan.now) }
+{
+    let mut values = given.copy()?;
     write_messages(&mut values, plan.messages(), id)?;
     Ok(values)
 }

@@ -6,7 +6,7 @@ use Rattle.base.specs.Lines.{lines_of, line_count}
 use Rattle.project_edits.specs.declared.edit.Edit.TheVariants.{Eds}
 use Rattle.project_edits.specs.Eds.{most_lines, most_bytes, has_long_line, eds_edit, IsEds}
 use Rattle.script_commands.proofs.LineFeeds.{no_lf, counted}
-use Rattle.script_commands.proofs.EdsLemmas.{same_lines, good_lines, device_parts}
+use Rattle.project_edits.proofs.EdsLemmas.{same_lines, good_lines, device_parts}
 
 module _ (name text : List ℕ) (is : IsEds name text) where
   -- it has as many lines as LFs

@@ -1,6 +1,4 @@
-pub mod TextLemmas
 pub mod LineFeeds
-pub mod EdsLemmas
 pub mod BlockLemmas
 pub mod WordLemmas
 pub mod NumberLemmas

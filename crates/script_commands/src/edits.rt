@@ -6,7 +6,6 @@ ghost use Rattle.cia301.specs.Limits.{is_node_number};
 ghost use Rattle.script_commands.specs.Requests.{id_of, version_of, bitrate_of, horizon_of, manager_of, sync_counter_of};
 ghost use Rattle.script_commands.specs.Requests.{drop_eds_of, node_of, is_mandatory, need_of, drop_node_of, param_of, unparam_of};
 
-use crate::command::Command;
 use crate::numbers::{decimal, index, sub_index};
 use crate::words::{last_word, name, text};
 use base::{Octets, next_word};
@@ -14,7 +13,7 @@ use project_edits::limits::{
     bit_rate, node_number, number_within, own_index, script_version, sync_counter as last_count,
     sync_period, time,
 };
-use project_edits::{Edit, EditFault, ManagerSettings};
+use project_edits::{Command, Edit, EditFault, ManagerSettings};
 use std::alloc::Global;
 
 /// The number of a node, which is the only word.

@@ -5,13 +5,12 @@ ghost use Rattle.project_edits.specs.Faults.{is_memory};
 ghost use Rattle.script_commands.specs.Requests.{set_of, switch, power_of, nmt, nmt_of, happening_of, event_of};
 ghost use Rattle.script_commands.specs.Requests.{drop_event_of};
 
-use crate::command::Command;
 use crate::numbers::{decimal, index, sub_index};
 use crate::words::{last_word, text};
 use base::{Octets, next_word};
 use co_scenario::{Event, NmtCommand, TimedEvent};
 use project_edits::limits::{event_number, node_number, node_or_all, own_index, time};
-use project_edits::{Edit, EditFault};
+use project_edits::{Command, Edit, EditFault};
 use std::alloc::Global;
 
 /// `event K TIME`, and what happens then.

@@ -6,7 +6,6 @@ ghost use Rattle.project_messages.specs.Messages.{IsMessage};
 ghost use Rattle.script_commands.specs.Links.{stated_numbers, message_within, message_of, start_of, drop_message_of};
 ghost use Rattle.script_commands.specs.Links.{source_of, unsource_of, sink_of, unsink_of};
 
-use crate::command::Command;
 use crate::numbers::{cob, decimal, index, sub_index};
 use crate::stated::Stated;
 use crate::words::{last_word, name};
@@ -14,7 +13,7 @@ use base::{Octets, next_word};
 use project_edits::limits::{
     byte, identifier, node_number, position, short, sync_start, tpdo_number,
 };
-use project_edits::{Edit, EditFault};
+use project_edits::{Command, Edit, EditFault};
 use project_messages::Message;
 use std::alloc::Global;
 

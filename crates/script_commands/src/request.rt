@@ -5,7 +5,6 @@ ghost use Rattle.base.specs.Gives.{Gives};
 ghost use Rattle.project_edits.specs.Faults.{is_memory};
 ghost use Rattle.script_commands.specs.Requests.{block_of, command_of, edit_request, query_request, link_of, request};
 
-use crate::command::Command;
 use crate::edits::{
     bitrate, drop_eds, drop_node, horizon, manager, need, node, param, sync_counter, unparam,
     version,
@@ -16,7 +15,7 @@ use crate::numbers::decimal;
 use crate::query::Query;
 use crate::words::{is_bad_line, last_word};
 use base::{Octets, next_word};
-use project_edits::{EditFault, is_name};
+use project_edits::{Command, EditFault, is_name};
 use std::alloc::Global;
 
 const MAX_BLOCK: u64 = 65_536;

@@ -41,7 +41,7 @@ pub(crate) fn name(word: &[u8]) -> Result<&[u8], EditFault>
 
 /// The text of the rest of a line: 1 to 4,000 bytes, none of them 00h to 1Fh other than tab,
 /// without spaces and tabs at its ends.
-#[tactic(auto, using(crate::proofs::TextLemmas::trimmed_is_text))]
+#[tactic(auto, using(project_edits::proofs::TextLemmas::trimmed_is_text))]
 pub(crate) fn text(rest: &[u8]) -> Result<&[u8], EditFault>
     ensures value { Gives is_memory (λ t. t.now) result (text rest.now) }
     ensures form { IfOk result (λ t. is_text t.now ≡ true) }

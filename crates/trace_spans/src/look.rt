@@ -18,6 +18,9 @@ pub struct Look {
     pub known_events: Option<u32>,
     /// An entry that an event sets, if one was met: buses that edits of events led to mostly differ there.
     pub place: Option<Place>,
+    /// The place, among the reads of a span, of the one by which the last span that didn't match was told: others of its
+    /// number mostly differ there too. At first it is one that no read has.
+    pub differing: usize,
 }
 
 /// The entry that the last of some events sets, if that event sets one.
@@ -47,6 +50,7 @@ impl Look {
             reads: ReadsNow::new(alloc),
             known_events: None,
             place: None,
+            differing: usize::MAX,
         }
     }
 

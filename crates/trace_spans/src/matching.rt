@@ -2,7 +2,7 @@
 
 ghost use Rattle.std.specs.Prelude.{◌≡◌, ◌≤◌, ◌+◌, ◌↔◌, ℕ, length, IfOk, OnOk, IsTrue};
 ghost use Rattle.image_parts.specs.Asking.{Agrees};
-ghost use Rattle.image_parts.specs.Contents.{Content};
+ghost use Rattle.image_parts.specs.Contents.{Content, Image};
 ghost use Rattle.image_parts.specs.declared.part.Part.TheVariants.{Events};
 ghost use Rattle.trace_spans.specs.Reads.{AreNumbered, AreMarked, LearnsMore, IsMarked, plain};
 
@@ -77,7 +77,29 @@ fn has<P: Parts>(
     }
 }
 
-/// Whether the image has all recorded values.
+/// Whether the image is known to lack one of the recorded values: that by which the last ones that didn't match were
+/// told. Asks for nothing.
+fn differs_there(now: &mut Look, reads: &[KeptRead]) -> Result<bool, AllocError>
+    requires { (image : Image) × ((contents : ℕ → Content) × ((given : ℕ) × (
+        AreNumbered image contents given now.old.reads × AreMarked contents given reads.now))) }
+    ensures answer { IfOk result (λ b. (image : Image) (contents : ℕ → Content) (given : ℕ)
+        → AreNumbered image contents given now.old.reads → IsTrue b → Agrees image (plain reads.now) → ⊥) }
+    ensures known { OnOk result ((image : Image) (contents : ℕ → Content) (given : ℕ)
+        → AreNumbered image contents given now.old.reads → AreMarked contents given reads.now
+        → AreNumbered image contents given now.new.reads) }
+{
+    let place = now.differing;
+    if place >= reads.len() {
+        return Ok(false);
+    }
+    let read = &reads[place];
+    match now.reads.compare(read)? {
+        Some(same) => Ok(!same),
+        None => Ok(false),
+    }
+}
+
+/// Whether the image has all recorded values. Looks first at the one by which the last ones that didn't match were told.
 pub fn matches<P: Parts>(
     alloc: Global,
     now: &mut Look,
@@ -95,10 +117,15 @@ pub fn matches<P: Parts>(
     ensures counted { OnOk result (P.asks parts.new ≤ P.asks parts.old + length reads.now) }
     ensures kept { (P.seen parts.new).image ≡ (P.seen parts.old).image }
 {
+    let differs = differs_there(now, reads)?;
+    if differs {
+        return Ok(false);
+    }
     for place in 0..reads.len() {
         let read = &reads[place];
         let same = has(alloc, now, given, parts, read)?;
         if !same {
+            now.differing = place;
             return Ok(false);
         }
     }

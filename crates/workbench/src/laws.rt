@@ -27,8 +27,8 @@ pub fn dcf_prints_the_text_of_its_node()
         → dcf_of project id ≡ Some (dcf_text project id m) }
 {}
 
-/// After a file, diagnostics or a trace was answered nothing is held of a name of an EDS, nor of a number of a node,
-/// that the project doesn't have.
+/// After a file, diagnostics or a trace was answered no part is held under a name of an EDS, nor under a number of a
+/// node, that the project doesn't have. What a part that stays was made from stays with it until it is made anew.
 pub fn nothing_is_held_of_what_is_gone()
     ensures parts { (named : List Part) (old new : Bench) → Brings named old new → HoldsNoneGone old.project new.parts }
     ensures trace { (old new : Bench) → BenchTraces old new → HoldsNoneGone old.project new.parts }

@@ -12,8 +12,8 @@ use crate::queries::answer;
 use crate::reply::Reply;
 use crate::workbench::Workbench;
 use base::{Octets, is_blank_line, without_crs};
-use co_project::{Command, EditFault, Request, refusal};
-use script_commands::Query;
+use co_project::{Command, EditFault, refusal};
+use script_commands::{Query, Request};
 use std::alloc::{AllocError, Global};
 
 /// The longest line of blanks that is skipped.

@@ -11,7 +11,9 @@ ghost use Rattle.co_project.specs.Tables.{node_at};
 ghost use Rattle.can_bus.specs.Lines.{lines_text};
 ghost use Rattle.kept_values.specs.Work.{idle, Rises};
 ghost use Rattle.kept_parts.specs.Kept.{kept_inputs};
+ghost use Rattle.kept_parts.specs.Marks.{Marks};
 ghost use Rattle.project_parts.specs.Reached.{parts_for};
+ghost use Rattle.project_parts.specs.Touched.{is_touched};
 ghost use Rattle.workbench.specs.Bench.{no_segments, Brings, BenchTraces};
 ghost use Rattle.workbench.specs.Queries.{or_unknown, dcf_of, concise_of, trace_of};
 
@@ -95,6 +97,9 @@ impl Workbench {
     /// edit may leave with other inputs is marked, whether it is taken or refused: that takes no memory.
     pub fn edit(&mut self, command: Command) -> Result<(), EditFault>
         ensures accepts { Accepts self.old.project self.new.project result (accept self.old.project command) }
+
+        // What is made from inputs that the edit may change has a mark afterwards, and what had one; nothing else has.
+        ensures marks { Marks (is_touched self.old.project command) self.old.parts self.new.parts }
 
         // Nothing that is kept changes, and nothing is counted.
         ensures held { (q : Part) → kept_inputs self.new.parts q ≡ kept_inputs self.old.parts q }

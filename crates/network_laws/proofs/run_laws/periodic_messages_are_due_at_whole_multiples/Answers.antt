@@ -1,5 +1,8 @@
-use Rattle.network_laws.proofs.BeatLemmas.{due_at_multiples_of_run, heartbeat_at_multiples, sync_at_multiples}
+use Rattle.network_laws.proofs.BeatLemmas.{due_at_multiples_of_run, heartbeat_at_multiples, on_time, sync_at_multiples}
 use Rattle.network_laws.proofs.run_laws.periodic_messages_are_due_at_whole_multiples.Goals as goal
+
+pub returns-clause-all : goal.returns-clause-all
+returns-clause-all c = on_time
 
 pub returns-clause-each : goal.returns-clause-each
 returns-clause-each c = due_at_multiples_of_run

@@ -6,10 +6,32 @@ use Rattle.trace_spans.proofs.KnownLemmas.{extends_in_turn, extends_itself, mark
 use Rattle.trace_spans.proofs.MatchLemmas.{HasRead, agrees_all, agrees_one, one_more}
 use Rattle.trace_spans.proofs.matching.matches.Goals as goal
 
+pub differs_there-requires : goal.differs_there-requires
+differs_there-requires g c =
+    let r = c.requires in
+    ((g.P.Asked.seen c.args.parts.now).image, (r.0, (c.args.given.now, (r.1.0, r.1.1))))
+
+pub returns-then-differs-clause-answer : goal.returns-then-differs-clause-answer
+returns-then-differs-clause-answer g c =
+    let r = c.requires in
+    let no = c.in_ok-differs.ensures.answer (g.P.Asked.seen c.args.parts.now).image r.0 c.args.given.now r.1.0 c.if-differs.true in (
+      (λ t. absurd (false≢true t)),
+      (λ a. absurd (no a)),
+    )
+
+pub returns-then-differs-clause-known : goal.returns-then-differs-clause-known
+returns-then-differs-clause-known g c contents h m =
+    let image = (g.P.Asked.seen c.args.parts.now).image in
+    extends_itself image contents c.args.given.now c.differs_there.new.now.reads
+    (c.in_ok-differs.ensures.known image contents c.args.given.now h m)
+
 pub loop-place-init : goal.loop-place-init
 loop-place-init g c = record {
   so_far = λ k d h. absurd (omega (arith, h));
-  known = λ contents h m. extends_itself (g.P.Asked.seen c.args.parts.now).image contents c.args.given.now c.args.now.now.reads h;
+  known = λ contents h m.
+      let image = (g.P.Asked.seen c.args.parts.now).image in
+      extends_itself image contents c.args.given.now c.differs_there.new.now.reads
+      (c.in_ok-differs.ensures.known image contents c.args.given.now h m);
   more = omega arith;
   counted = omega arith;
   kept = refl;

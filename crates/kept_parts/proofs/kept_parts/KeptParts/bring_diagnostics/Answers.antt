@@ -1,4 +1,4 @@
-use Rattle.std.proofs.Common.{◌≡◌, [], ◌∷◌, ◌∙◌, Bool, true, Option, Some, ap, refl}
+use Rattle.std.proofs.Common.{◌≡◌, [], ◌∷◌, ◌∙◌, Bool, true, Option, Some, ap, refl, sym}
 use Rattle.kept_values.proofs.Brought.{both, refreshes_built, refreshes_none}
 use Rattle.kept_values.specs.Shelved.{Single}
 use Rattle.project_parts.specs.Given.{inputs_of, same_part, whole}
@@ -6,6 +6,7 @@ use Rattle.project_parts.specs.Reached.{for_plan}
 use Rattle.project_parts.specs.declared.diagnostics_from.DiagnosticsFrom.{DiagnosticsFrom}
 use Rattle.project_parts.specs.declared.part.Part.TheVariants as part
 use Rattle.project_parts.proofs.PlanLemmas.{plan_is}
+use Rattle.project_plan.specs.Network.{plan_of_project}
 use Rattle.kept_parts.specs.Kept.{kept_inputs}
 use Rattle.kept_parts.proofs.KindLemmas.{found_brought, found_is_of}
 use Rattle.kept_parts.proofs.kept_parts.KeptParts.bring_diagnostics.Goals as goal
@@ -19,8 +20,9 @@ unmarked : (old new : Single DiagnosticsFrom) (now : DiagnosticsFrom) → old.ke
 unfolding single
 unmarked old new now kept is = is ∙ ap (λ k. single k true) kept
 
-pub find-requires-clause-plan : goal.find-requires-clause-plan
-find-requires-clause-plan c = c.get.ensures ∙ c.in_ok-plan.ensures.value ∙ plan_is c.args.project.now
+pub find-requires : goal.find-requires
+find-requires c = c.get.ensures ∙ c.in_ok-plan.ensures.value ∙ plan_is c.args.project.now
+    ∙ ap plan_of_project (sym c.in_ok-library.ensures)
 
 -- ---- they are of this project
 

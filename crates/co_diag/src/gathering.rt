@@ -1,0 +1,161 @@
+//! What is found of all nodes, gathered.
+ghost use Rattle.std.specs.Prelude.{◌≡◌, ◌++◌, IfOk, OnOk, false};
+ghost use Rattle.std.specs.List.{flat_map};
+ghost use Rattle.project_plan.specs.Network.{members, plan_of_project};
+ghost use Rattle.project_plan.specs.Wanted.{sends};
+ghost use Rattle.co_diag.specs.Alone.{Keeps};
+ghost use Rattle.co_diag.specs.Devices.{AreAllRead, of_node};
+ghost use Rattle.co_diag.specs.Found.{consumers, counters, identifiers, unreadable_defaults};
+ghost use Rattle.co_diag.specs.Kept.{numbers_by, times};
+ghost use Rattle.co_diag.specs.Rules.{consumers_in, counters_in, identifiers_in, times_in};
+ghost use Rattle.co_diag.specs.Sheets.{faults_of_node};
+
+use crate::devices::shared_device;
+use crate::kept::{Kept, keep_values};
+use crate::node_found::NodeFound;
+use crate::nodes_found::NodesFound;
+use co_project::Node;
+use diag_lines::Diag;
+use pdo_plan::Plan;
+use project_plan::{Library, sends, wanted_values};
+use std::alloc::{AllocError, Global};
+
+/// What is found of nodes beside the faults of their parameters.
+#[derive(Drop)]
+pub(crate) struct Gathered {
+    /// The unreadable defaults.
+    pub defaults: Vec<Diag>,
+    /// What is kept of the nodes once they are configured.
+    pub kept: Kept,
+}
+
+/// Puts copies of diagnostics at the end of what was found.
+pub(crate) fn add_copies(
+    found: &mut Vec<Diag>,
+    alloc: Global,
+    more: &[Diag],
+) -> Result<(), AllocError>
+    ensures { OnOk result (found.new.items ≡ found.old.items ++ more.now) }
+{
+    for diag in more {
+        let copy = diag.copy(alloc)?;
+        found.push(copy)?;
+    }
+    Ok(())
+}
+
+/// Keeps what there is of a node that sends no message.
+fn keep_alone(kept: &mut Kept, plan: &Plan, found: &NodeFound) -> Result<(), AllocError>
+    requires { sends plan.now found.now.0 ≡ false }
+    ensures { OnOk result (Keeps (numbers_by plan.now) found.now kept.old kept.new) }
+{
+    let _ = plan;
+    kept.add(found.kept())?;
+    Ok(())
+}
+
+/// Keeps what there is of a node once it is configured by a plan.
+fn keep_found(kept: &mut Kept, plan: &Plan, found: &NodeFound) -> Result<(), AllocError>
+    ensures { OnOk result (Keeps (numbers_by plan.now) found.now kept.old kept.new) }
+{
+    let id = found.id();
+    if !sends(plan, id) {
+        return keep_alone(kept, plan, found);
+    }
+    let values = wanted_values(found.given(), plan, id)?;
+    keep_values(kept, id, found.device(), &values)?;
+    Ok(())
+}
+
+/// Gathers what is found of a node.
+fn gather_found(
+    faults: &mut Vec<Diag>,
+    gathered: &mut Gathered,
+    alloc: Global,
+    plan: &Plan,
+    found: &NodeFound,
+) -> Result<(), AllocError>
+    ensures faults { OnOk result (faults.new.items ≡ faults.old.items ++ faults_of_node found.now) }
+    ensures defaults { OnOk result (gathered.new.defaults.items
+        ≡ gathered.old.defaults.items ++ unreadable_defaults found.now) }
+    ensures kept { OnOk result (Keeps (numbers_by plan.now) found.now gathered.old.kept gathered.new.kept) }
+{
+    add_copies(faults, alloc, found.faults())?;
+    add_copies(&mut gathered.defaults, alloc, found.defaults())?;
+    keep_found(&mut gathered.kept, plan, found)?;
+    Ok(())
+}
+
+/// Gathers it of a node, where it has a device.
+fn gather_node(
+    faults: &mut Vec<Diag>,
+    gathered: &mut Gathered,
+    alloc: Global,
+    library: &Library<'_>,
+    plan: &Plan,
+    nodes: &mut NodesFound,
+    id: u8,
+    node: &Node,
+) -> Result<(), AllocError>
+    requires { AreAllRead library.now }
+    ensures faults { OnOk result (faults.new.items
+        ≡ faults.old.items ++ of_node faults_of_node library.now.project (id, node.now)) }
+    ensures defaults { OnOk result (gathered.new.defaults.items
+        ≡ gathered.old.defaults.items ++ of_node unreadable_defaults library.now.project (id, node.now)) }
+    ensures identifiers { OnOk result (gathered.new.kept.identifiers.items ≡ gathered.old.kept.identifiers.items
+        ++ of_node (identifiers_in (numbers_by plan.now)) library.now.project (id, node.now)) }
+    ensures consumers { OnOk result (gathered.new.kept.consumers.items ≡ gathered.old.kept.consumers.items
+        ++ of_node (consumers_in (numbers_by plan.now)) library.now.project (id, node.now)) }
+    ensures times { OnOk result (gathered.new.kept.times.items ≡ gathered.old.kept.times.items
+        ++ of_node (times_in (numbers_by plan.now)) library.now.project (id, node.now)) }
+    ensures counters { OnOk result (gathered.new.kept.counters.items ≡ gathered.old.kept.counters.items
+        ++ of_node (counters_in (numbers_by plan.now)) library.now.project (id, node.now)) }
+{
+    let Some(device) = shared_device(library, node.eds.as_slice())? else {
+        return Ok(());
+    };
+    let found = nodes.take(alloc, id, node, device)?;
+    gather_found(faults, gathered, alloc, plan, &found)?;
+    nodes.put(found)?;
+    Ok(())
+}
+
+/// Gathers what is found of all nodes: the faults of their parameters at the end of what was found, so that these and
+/// the defaults come in order each. What is found of a node by itself is found again where it changed alone.
+pub(crate) fn gather_nodes(
+    faults: &mut Vec<Diag>,
+    alloc: Global,
+    library: &Library<'_>,
+    plan: &Plan,
+    nodes: &mut NodesFound,
+) -> Result<Gathered, AllocError>
+    requires read { AreAllRead library.now }
+    requires plan { plan.now ≡ plan_of_project library.now.project }
+    ensures faults { OnOk result (faults.new.items
+        ≡ faults.old.items ++ flat_map faults_of_node (members library.now.project)) }
+    ensures defaults { IfOk result (λ g. g.defaults.items
+        ≡ flat_map unreadable_defaults (members library.now.project)) }
+    ensures identifiers { IfOk result (λ g. g.kept.identifiers.items ≡ identifiers library.now.project) }
+    ensures consumers { IfOk result (λ g. g.kept.consumers.items ≡ consumers library.now.project) }
+    ensures times { IfOk result (λ g. g.kept.times.items ≡ times library.now.project) }
+    ensures counters { IfOk result (λ g. g.kept.counters.items ≡ counters library.now.project) }
+{
+    nodes.let_go(library.project());
+    let mut gathered = Gathered {
+        defaults: Vec::new(alloc),
+        kept: Kept::new(alloc),
+    };
+    for (id, node) in library.project().nodes() {
+        gather_node(
+            faults,
+            &mut gathered,
+            alloc,
+            library,
+            plan,
+            nodes,
+            *id,
+            node,
+        )?;
+    }
+    Ok(gathered)
+}
