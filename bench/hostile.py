@@ -18,14 +18,14 @@ and the inputs of worst_inputs.py, which are short beside what they ask for:
              as long as one of any keys
   long       16 arrays whose default, and for a `trace` whose limits too, are formulas as long as a line can be, for
              126 nodes: at most three times as long as with formulas of a few digits
-  sheets     126 nodes whose data sheet is replaced 100 times, with a `trace` behind each: at most 64 MiB
+  sheets     126 nodes whose data sheet is replaced 100 times, with a `trace` behind each: at most 160 MiB
   events     10,000 events with texts of 500 bytes, one of which changes 200 times, with a `trace` behind each: at
              most 256 MiB
   first      an event of the first moment that changes 3,000 times, with a `trace` behind each: the last 500 turns
              take at most 1.2 times as long as the second 500
   flip       an event that takes one of two forms by turns, 20 times, with a `trace` of ten seconds behind each: a
              turn takes at most 1.2 times as long as the first one
-  moved      126 nodes that have a data sheet of 65,536 lines in turn, which is dropped again: at most 200 MiB
+  moved      126 nodes that have a data sheet of 65,536 lines in turn, which is dropped again: at most 1,400 MiB
   unused     63 data sheets of 60,000 lines that no node has: 50 turns of an edit and `diag` take at most a tenth of
              reading them
 
@@ -279,7 +279,7 @@ def long(program):
 
 
 def sheets(program):
-    return within(program, "sheets", worst_inputs.sheets(100), 64)
+    return within(program, "sheets", worst_inputs.sheets(100), 160)
 
 
 def events(program):
@@ -301,7 +301,7 @@ def flip(program):
 
 
 def moved(program):
-    return within(program, "moved", worst_inputs.moved(), 200)
+    return within(program, "moved", worst_inputs.moved(), 1400)
 
 
 def unused(program):
