@@ -279,7 +279,7 @@ def long(program):
 
 
 def sheets(program):
-    return within(program, "sheets", worst_inputs.sheets(100), 160)
+    return within(program, "sheets", worst_inputs.sheets(100), 64)
 
 
 def events(program):

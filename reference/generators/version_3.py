@@ -1,8 +1,10 @@
 """Scripts of version 3, small and nasty.
 
 A sheet is made together with what it can do (class Sheet), so that most messages fit the PDOs of their nodes; then some
-commands are spoiled on purpose."""
+commands are spoiled on purpose. Those of `vendors` have no type that only version 3 has, and no controller."""
 from typing import Dict, List
+
+from rules.values import OF_VERSION_3
 
 # ------------------------------------------------------------------ entries
 
@@ -22,6 +24,9 @@ for _index, _kind in TYPES.items():
 PATTERNS = [[8], [8], [8, 16], [16], [32], [1, 8], [8, 8], [24], [24, 40], [40], [48, 16], [56, 8],
             [56], [48], [64], [32, 32], [1, 1, 8], [16, 8, 32], [24, 8, 32], [1, 24]]
 COMMON = [[8], [8], [16], [32], [64]]                 # so that many PDOs fit one another
+USUAL_TYPES = {index: kind for index, kind in TYPES.items() if kind not in OF_VERSION_3}
+USUAL_WIDTHS = {BITS[kind] for kind in USUAL_TYPES.values() if kind in BITS}
+USUAL_PATTERNS = [pattern for pattern in PATTERNS if USUAL_WIDTHS.issuperset(pattern)]
 
 DECIMALS = [b"0", b"1", b"-1", b"2.5", b"0.1", b"-0", b"+0", b"-0.0", b".5", b"5.", b"1e3", b"-1E-3",
             b"+1.5e+2", b"1e38", b"3.4028234e38", b"3.4028235677973366e38",
@@ -105,8 +110,9 @@ def alike(source, sink):
 
 
 class Sheet:
-    def __init__(self, r, name):
+    def __init__(self, r, name, is_usual):
         self.r, self.name, self.lines = r, name, []
+        self.types, self.patterns = (USUAL_TYPES, USUAL_PATTERNS) if is_usual else (TYPES, PATTERNS)
         self.access = {}
         self._dummies()
         self._entries()
@@ -145,7 +151,7 @@ class Sheet:
                          (b"PDOMapping", r.choice([None, b"1"])))
         if r.random() < 0.4:
             self.section(b"1019", (b"DataType", b"5"), (b"DefaultValue", r.choice([b"0", b"3"])))
-        for index, kind in TYPES.items():
+        for index, kind in self.types.items():
             if r.random() < 0.05:
                 continue
             access = r.choice([b"rw"] * 12 + [b"rww", b"wo", b"rwr", b"ro", b"const"])
@@ -256,7 +262,7 @@ class Sheet:
 
     def _print_mapping(self, pdo, access):
         r, m = self.r, pdo.m
-        items = self._items(r.choice(COMMON if r.random() < 0.45 else PATTERNS),
+        items = self._items(r.choice(COMMON if r.random() < 0.45 else self.patterns),
                             pdo.base == 0x1800) or []
         writable = pdo.open() and r.random() < 0.6
         accesses = [r.choice(FREE) if writable else access() for _ in range(9)]
@@ -292,8 +298,9 @@ class Sheet:
 # ----------------------------------------------------------------- networks
 
 class Network:
-    def __init__(self, r):
-        self.r, self.out = r, []
+    def __init__(self, r, is_usual):
+        self.r, self.out, self.is_usual = r, [], is_usual
+        self.types = list(USUAL_TYPES if is_usual else TYPES)
         self.messages, self.receives, self.version, self.heartbeat = {}, {}, 3, 0
         self.consumers_of = {}
         self.used_rpdos, self.identifiers, self.used_tpdos = set(), set(), set()
@@ -324,13 +331,15 @@ class Network:
             self.say(b"version 3")
         self.say(b"bitrate %d", r.choice([1000] * 12 + [500, 500, 500, 250, 125, 50, 20, 10]))
         self.say(b"horizon %d", r.choice([12000, 20000, 25000, 30000, 40000]))
-        self.sheets = [Sheet(r, name) for name in r.sample([b"a", b"b", b"c"], r.choice([2, 2, 3]))]
+        self.sheets = [Sheet(r, name, self.is_usual) for name in r.sample([b"a", b"b", b"c"], r.choice([2, 2, 3]))]
         for sheet in self.sheets:
             self.eds(sheet)
         numbers = r.sample([1, 2, 5, 6, 7, 17, 126, 127], r.choice([2, 3, 3, 4]))
         if r.random() < 0.03:
             numbers = numbers[:1]
-        self.manager = r.choice(numbers) if r.random() < 0.6 else r.choice([3, 127, 4])
+        self.manager = r.choice(numbers) if not self.is_usual and r.random() < 0.6 else r.choice([3, 127, 4])
+        if self.is_usual and self.manager in numbers:
+            self.manager = 99
         self.nodes = {n: r.choice(self.sheets) for n in numbers}
         if late:
             self.try_early(numbers)
@@ -379,8 +388,8 @@ class Network:
                      watched << 16 | r.choice([2, 3, 4, 6]))
         if r.random() < 0.15:
             self.say(b"param %d 1019 0 %d", n, r.choice([0, 2, 3]))
-        for index in r.sample(list(TYPES), r.choice([0, 1, 1, 2])) + r.choice(
-                [[], [], [0x200D], [0x200E]]):
+        for index in r.sample(self.types, r.choice([0, 1, 1, 2])) + r.choice(
+                [[], []] if self.is_usual else [[], [], [0x200D], [0x200E]]):
             self.say(b"param %d %04X 0 %s", n, index, text_of(r, index))
 
     # ------------------------------------------------------------- messages
@@ -396,7 +405,7 @@ class Network:
         if tpdo.mapping is not None:
             items = tpdo.mapping
         else:
-            patterns = [p for p in PATTERNS if len(p) <= tpdo.places]
+            patterns = [p for p in sheet.patterns if len(p) <= tpdo.places]
             items = sheet._items(r.choice(self.wanted_patterns(node, patterns)), True) or []
         kind = r.choice([255, 255, 255, 254, 0, 1, 2]) if tpdo.free(2) else tpdo.default[2]
         if kind >= 254 and r.random() < 0.3:
@@ -558,7 +567,7 @@ class Network:
     def spoil(self, name, node):
         r = self.r
         other = r.choice(list(self.nodes))
-        index = r.choice(list(TYPES))
+        index = r.choice(self.types)
         self.say(*r.choice([
             (b"sink %s %d %d %04X 0", name, r.randint(1, 4), other, index),
             (b"source %s %d %04X 0", name, r.randint(1, 4), index),
@@ -585,7 +594,7 @@ class Network:
         time = r.choice([r.randrange(30000), r.randrange(0, 30000, 1000), r.randrange(8000, 25000)])
         n = r.choice(list(self.nodes) + ([self.manager] if self.manager in self.nodes else []))
         mapped = [i for p in self.nodes[n].pdos[0x1800] for i, _ in p.mapping or []]
-        index = r.choice(mapped) if mapped and r.random() < 0.5 else r.choice(list(TYPES))
+        index = r.choice(mapped) if mapped and r.random() < 0.5 else r.choice(self.types)
         body = r.choice([b"set %d %04X 0 %s" % (n, index, text_of(r, index))] * 5 + [
             b"set %d 1017 0 %d" % (n, r.randrange(4)),
             b"set %d 1000 0 %d" % (n, r.randrange(4)),
@@ -693,4 +702,8 @@ class Network:
 
 
 def script(r):
-    return Network(r).script()
+    return Network(r, False).script()
+
+
+def vendors(r):
+    return Network(r, True).script()

@@ -11,6 +11,7 @@ from .devices import PRODUCER_TIME, Device
 from .manager import Manager
 from .messages import plan_of
 from .values import value
+from .versions import STARTS
 from .write_check import Shape
 from .writes import node_writes
 
@@ -26,6 +27,7 @@ class Roster:
     timeout_ms: int
     sync_counter: int
     version: int
+    starts_by_number: bool     # in place of the start of all nodes at once
     nodes: Tuple[int, ...]
     mandatory: Tuple[int, ...]
 
@@ -33,7 +35,8 @@ class Roster:
     def of(project):
         mandatory = tuple(number for number, node in sorted(project.nodes.items())
                           if node.is_mandatory and number != project.controller())
-        return Roster(project.bit_rate, *project.manager, project.sync_counter, project.version, tuple(sorted(project.nodes)), mandatory)
+        return Roster(project.bit_rate, *project.manager, project.sync_counter, project.version, project.has(STARTS),
+                      tuple(sorted(project.nodes)), mandatory)
 
     def controller(self):
         """The node that the manager runs in, or None."""
@@ -62,10 +65,11 @@ class Image:
         plan = plan_of(project)
         for node in self.roster.nodes:
             sheet, writes = project.sheet(node), node_writes(project, plan, node)
-            is_controller = node == self.roster.controller()
-            self.shapes[node] = controller_shape(sheet.shape(node)) if is_controller else sheet.shape(node)
-            self.defaults[node] = controller_defaults(sheet.defaults(node), writes) if is_controller else sheet.defaults(node)
-            self.identities[node], self.writes[node] = sheet.identity(node), writes
+            shape, defaults = sheet.shape(node), sheet.defaults(node)
+            if node == self.roster.controller():
+                shape = Shape(without_producer_time(shape.entries), shape.dummies)
+                defaults = without_producer_time({**defaults, **{write.place: write.data for write in writes}})
+            self.shapes[node], self.defaults[node], self.identities[node], self.writes[node] = shape, defaults, sheet.identity(node), writes
         self.steps = [step for _, event in project.events_in_order() for step in [self.step_of(event)] if step]
 
     def step_of(self, event):
@@ -82,14 +86,8 @@ class Image:
         return self.writes[node][number] if number < len(self.writes[node]) else None
 
 
-def controller_shape(shape):
-    return Shape({place: entry for place, entry in shape.entries.items() if place != PRODUCER_TIME}, shape.dummies)
-
-
-def controller_defaults(defaults, writes):
-    values = {**defaults, **{write.place: write.data for write in writes}}
-    values.pop(PRODUCER_TIME, None)
-    return values
+def without_producer_time(table):
+    return {place: content for place, content in table.items() if place != PRODUCER_TIME}
 
 
 class Bus:

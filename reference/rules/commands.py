@@ -1,6 +1,4 @@
-"""The forms and limits of commands: docs/rules/commands.md.
-
-Version 3 has `receive` and `unreceive`; a program whose newest version is 2 knows neither these nor `version 3`."""
+"""The forms and limits of commands: docs/rules/commands.md."""
 import re
 from typing import Callable, Dict, List, NamedTuple, Optional, Tuple
 
@@ -10,7 +8,6 @@ from .ini_text import LONGEST_LINE
 from .project import Event
 from .write_check import is_of_pdos
 
-NEWEST_VERSION = 3
 MOST_LINES = 65_536
 BLANK_RUN = re.compile(rb"[ \t]+")
 NAME, DECIMAL, REST = re.compile(rb"[A-Za-z0-9_]{1,32}"), re.compile(rb"[0-9]{1,10}"), re.compile(rb".{1,4000}", re.S)
@@ -53,7 +50,7 @@ OWN_INDEX = hexadecimal(INDEX_DIGITS, lambda value: not is_of_pdos(value))
 TEXT = Form(REST, bytes)
 
 FORMS: Dict[bytes, List[Form]] = {
-    b"version": [number(1, NEWEST_VERSION)],
+    b"version": [number(1, 3)],
     b"bitrate": [number_of(10, 20, 50, 125, 250, 500, 1000)],
     b"horizon": [TIME],
     b"manager": [ID, number(1_000, 10_000_000, 0), WORD, number(1, 65_535)],
@@ -80,7 +77,6 @@ FORMS: Dict[bytes, List[Form]] = {
     b"dcf": [ID], b"cdcf": [ID], b"diag": [], b"trace": [], b"project": [],
 }
 QUERIES = (b"dcf", b"cdcf", b"diag", b"trace", b"project")
-OF_VERSION_3 = (b"receive", b"unreceive")
 
 
 def words_of(line, at_most=0):
@@ -100,22 +96,21 @@ def block_lines(line) -> Optional[int]:
     return int(words[2]) if takes_block else None
 
 
-def forms_of(words, newest):
+def forms_of(words):
     """The forms of the words behind the first; those of an event depend on its kind."""
     name = b" ".join([words[0], *words[3:4]]) if words[0] == b"event" else words[0]
-    refuse_unless(name in FORMS and (newest >= 3 or name not in OF_VERSION_3), SYNTAX)
+    refuse_unless(name in FORMS, SYNTAX)
     return FORMS[name]
 
 
-def command_of(line, newest=NEWEST_VERSION):
+def command_of(line):
     """The command of a line with words that takes no block. The forms of all words are judged before any limit."""
     refuse_unless(not is_bad_line(line), SYNTAX)
-    forms = forms_of(words_of(line), newest)
+    forms = forms_of(words_of(line))
     first, *words = words_of(line, len(forms) + 1 if TEXT in forms else 0)
     refuse_unless(len(words) == len(forms) and all(form.spelling.fullmatch(word) for form, word in zip(forms, words)), SYNTAX)
     values = [form.meaning(word) for form, word in zip(forms, words)]
     refuse_unless(all(form.is_allowed(value) for form, value in zip(forms, values)), RANGE)
-    refuse_unless(first != b"version" or values[0] <= newest, RANGE)
     return Command(first, arguments_of(first, values))
 
 

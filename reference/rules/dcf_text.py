@@ -30,7 +30,7 @@ def take_values_out(sheet, content):
     changed = set()
     for section in object_sections(content):
         values = content.section(section.name + b"Value")
-        if compact_count(section) is None or type_of_code(code_of(section), sheet.version) is None or values is None:
+        if compact_count(section) is None or type_of_code(code_of(section), sheet.has_all_types) is None or values is None:
             continue
         for _, key in decimal_keys(values):
             values.remove(key)

@@ -1,4 +1,7 @@
 """A simulated device at a moment: docs/rules/devices.md. Moments are microseconds from the power-on of the network."""
+from dataclasses import dataclass
+from typing import Optional
+
 from . import sdo
 from .frames import EMERGENCY, ERROR_CONTROL, NMT, SDO_ANSWER, SDO_REQUEST, SYNC, Frame, WaitingFrames, boot_up_message
 from .pdos import APPLIED, KEPT, SHORT, Tpdo, identifier_of, mapping_now, pdo_of_object, pdos_of, receipt, works
@@ -12,12 +15,11 @@ ERROR_BITS = 0x11
 HEARTBEAT_FAILED, TOO_SHORT, NO_ERROR = 0x8130, 0x8210, 0x0000
 
 
+@dataclass
 class Consumer:
     """A heartbeat consumer: when it fails, and whether it has."""
-
-    def __init__(self):
-        self.moment = None
-        self.has_failed = False
+    moment: Optional[int] = None
+    has_failed: bool = False
 
 
 class Device:

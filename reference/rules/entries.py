@@ -112,7 +112,7 @@ def entries_of_compact_objects(content):
 
 
 class DataSheet:
-    """The device of a text, in scripts of one version."""
+    """The device of a text, with the types of version 3 or without them."""
 
     def __init__(self, text: bytes) -> None:
         self.content = content_of(text)
@@ -123,17 +123,17 @@ class DataSheet:
         refuse_unless(len(self.entries) <= MOST_ENTRIES, LIMIT)
         self.dummies = frozenset(kind for kind in range(1, 8) if number(
             self.content.value_at(b"DummyUsage", b"Dummy000%d" % kind) or b"") not in (None, 0))
-        self.set_version(1)
+        self.set_types(False)
 
-    def set_version(self, version: int) -> None:
-        self.version = version
-        self.types = {place: type_of_code(described.code, version) for place, described in self.entries.items()}
+    def set_types(self, has_all: bool) -> None:
+        self.has_all_types = has_all
+        self.types = {place: type_of_code(described.code, has_all) for place, described in self.entries.items()}
         self.shapes: Dict[int, Shape] = {}                       # by node, once they are asked for
         self.dictionaries: Dict[int, Dict[Place, bytes]] = {}
 
-    def in_version(self, version):
+    def with_types(self, has_all):
         other = copy.copy(self)
-        other.set_version(version)
+        other.set_types(has_all)
         return other
 
     def value_text(self, place):

@@ -119,7 +119,7 @@ class Manager:
             self.start_network()
 
     def start_network(self):
-        if self.roster.version == 2:
+        if not self.roster.starts_by_number:
             self.command(START, 0)
             return
         for node in self.roster.nodes:
@@ -140,16 +140,12 @@ class Manager:
         if self.is_due(self.heartbeat_us, now):
             self.waiting.replace(("heartbeat",), Frame(ERROR_CONTROL + self.roster.manager, b"\x05"))
         if self.is_due(self.roster.sync_us, now):
-            self.waiting.replace(("sync",), Frame(SYNC, self.sync_data(now)))
+            counter, number = self.roster.sync_counter, now // self.roster.sync_us - 1     # it goes by the moment alone
+            self.waiting.replace(("sync",), Frame(SYNC, bytes([number % counter + 1]) if counter else b""))
 
     def is_due(self, period, now):
         """At the whole multiples of the period above 0; a period of 0 is none."""
         return period > 0 and now > 0 and now % period == 0
-
-    def sync_data(self, now):
-        """The counter, where SYNC has one: it goes by the moment alone."""
-        counter = self.roster.sync_counter
-        return bytes([(now // self.roster.sync_us - 1) % counter + 1]) if counter else b""
 
     def moments(self, now):
         """The due moments after now."""

@@ -41,8 +41,8 @@ class Planned:
         return sorted({node for _, node in self.sinks})
 
     def milliseconds(self, node):
-        """The event time that a `receive` gives the node, or None."""
-        return self.receives[node][1] if node in self.receives else None
+        """The event time that a `receive` gives the node; 0 where it leaves that of the RPDO as it is, or there is none."""
+        return self.receives[node][1] if node in self.receives else 0
 
 
 def plan_of(project):

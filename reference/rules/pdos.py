@@ -63,11 +63,8 @@ class Tpdo:
 
     def __init__(self, device, pdo):
         self.device, self.pdo = device, pdo
-        self.last = None
-        self.inhibit = None
-        self.event = None
-        self.counted = 0
-        self.has_started = False
+        self.last = self.inhibit = self.event = None
+        self.counted, self.has_started = 0, False
 
     def end_inhibit(self, now):
         """A moment that has come is forgotten."""
@@ -81,7 +78,9 @@ class Tpdo:
             return None
         self.last = data
         if kind in (254, 255):
-            self.set_moments(inhibit_time(self.device, self.pdo), event_time(self.device, self.pdo), now)
+            inhibit, event = inhibit_time(self.device, self.pdo), event_time(self.device, self.pdo)
+            self.inhibit = now + inhibit if inhibit else None
+            self.event = now + max(event, inhibit) if event else None
         return data
 
     def is_sent(self, kind, data, sync, now):
@@ -89,7 +88,8 @@ class Tpdo:
             return sync is not None and data != self.last
         if kind is not None and kind <= 240:
             return sync is not None and self.is_each_nth(kind, sync)
-        return kind in (254, 255) and self.is_event_turn(data, now)
+        has_come = self.event is not None and self.event <= now
+        return kind in (254, 255) and self.inhibit is None and (data != self.last or has_come)
 
     def is_each_nth(self, kind, sync):
         """Of the SYNCs that count."""
@@ -107,13 +107,6 @@ class Tpdo:
             return False
         self.has_started, self.counted = True, 0
         return True
-
-    def is_event_turn(self, data, now):
-        return self.inhibit is None and (data != self.last or self.event is not None and self.event <= now)
-
-    def set_moments(self, inhibit, event, now):
-        self.inhibit = now + inhibit if inhibit else None
-        self.event = now + max(event, inhibit) if event else None
 
 
 def receipt(device, pdo, frame):

@@ -3,13 +3,16 @@
 Version 3 has `receive MESSAGE ID RPDO MS` and `unreceive MESSAGE ID`: the node takes the message by that RPDO (0: the one that
 the plan gives) and expects it within so many milliseconds (0: the entry stays as it is). A node may have the manager's number."""
 from dataclasses import dataclass, field
-from typing import Dict, List, Optional, Tuple
+from typing import Dict, FrozenSet, List, Optional, Tuple
 
 from .entries import DataSheet
 from .faults import IN_USE, LIMIT, RANGE, TAKEN, UNKNOWN, refuse_unless
+from .versions import CONTROLLER, TYPES, WHOLE
 from .write_check import Place
 
 MOST_TEXTS, MOST_PARAMETERS, MOST_MESSAGES = 64, 4_096, 1_024
+LEAST_VERSION = {b"need": 2, b"receive": 3, b"unreceive": 3}
+REMOVALS = {b"unparam": "parameters", b"unsource": "sources", b"unsink": "sinks", b"unreceive": "receives"}    # by the key alone
 
 
 @dataclass
@@ -50,6 +53,7 @@ class Event:
 
 @dataclass
 class Project:
+    parts: FrozenSet[str] = WHOLE       # those of version 3 that are known
     version: int = 1
     bit_rate: int = 1000
     horizon: int = 1_000_000
@@ -64,6 +68,10 @@ class Project:
     sinks: Dict[Tuple[bytes, int, int], Place] = field(default_factory=dict)        # by message, position and node
     receives: Dict[Tuple[bytes, int], Tuple[int, int]] = field(default_factory=dict)    # RPDO and ms, by message and node
     events: Dict[int, Event] = field(default_factory=dict)
+
+    def has(self, part):
+        """Scripts of this version have that part of version 3."""
+        return self.version >= 3 and part in self.parts
 
     def sheet(self, node):
         return self.sheets[self.nodes[node].eds]
@@ -90,13 +98,19 @@ class Project:
 
     def accept(self, word, arguments):
         """The edit of that first word; its refusal is that of the first of Range, Unknown, Taken, InUse and Limit that holds."""
-        getattr(self, "edit_" + word.decode().replace("-", "_"))(*arguments)
+        refuse_unless(self.version >= LEAST_VERSION.get(word, 1), RANGE)
+        if word in REMOVALS:
+            table = getattr(self, REMOVALS[word])
+            refuse_unless(arguments in table, UNKNOWN)
+            del table[arguments]
+        else:
+            getattr(self, "edit_" + word.decode().replace("-", "_"))(*arguments)
 
     def edit_version(self, version):
         refuse_unless(version > 1 or not any(node.is_mandatory for node in self.nodes.values()), IN_USE)
         refuse_unless(version > 2 or not self.receives and self.controller() is None, IN_USE)
         self.version = version
-        self.sheets = {name: sheet.in_version(version) for name, sheet in self.sheets.items()}
+        self.sheets = {name: sheet.with_types(self.has(TYPES)) for name, sheet in self.sheets.items()}
 
     def edit_bitrate(self, rate):
         self.bit_rate = rate
@@ -105,7 +119,7 @@ class Project:
         self.horizon = time
 
     def edit_manager(self, *numbers):
-        refuse_unless(self.version >= 3 or numbers[0] not in self.nodes, TAKEN)
+        refuse_unless(self.has(CONTROLLER) or numbers[0] not in self.nodes, TAKEN)
         self.manager = numbers
 
     def edit_sync_counter(self, counter):
@@ -113,7 +127,7 @@ class Project:
 
     def edit_eds(self, name, lines, sheet):
         refuse_unless(name in self.texts or len(self.texts) < MOST_TEXTS, LIMIT)
-        self.texts[name], self.sheets[name] = lines, sheet.in_version(self.version)
+        self.texts[name], self.sheets[name] = lines, sheet.with_types(self.has(TYPES))
 
     def edit_drop_eds(self, name):
         refuse_unless(name in self.texts, UNKNOWN)
@@ -122,12 +136,11 @@ class Project:
 
     def edit_node(self, number, name, eds):
         refuse_unless(eds in self.texts, UNKNOWN)
-        refuse_unless(self.version >= 3 or number != self.manager[0], TAKEN)
+        refuse_unless(self.has(CONTROLLER) or number != self.manager[0], TAKEN)
         refuse_unless(all(node.name != name for other, node in self.nodes.items() if other != number), TAKEN)
         self.nodes[number] = Node(name, eds, number in self.nodes and self.nodes[number].is_mandatory)
 
     def edit_need(self, number, is_mandatory):
-        refuse_unless(self.version >= 2, RANGE)
         refuse_unless(number in self.nodes, UNKNOWN)
         self.nodes[number].is_mandatory = is_mandatory
 
@@ -145,10 +158,6 @@ class Project:
         refuse_unless(key in self.parameters or sum(each[0] == number for each in self.parameters) < MOST_PARAMETERS, LIMIT)
         self.parameters[key] = text
 
-    def edit_unparam(self, *key):
-        refuse_unless(key in self.parameters, UNKNOWN)
-        del self.parameters[key]
-
     def edit_message(self, name, node, *numbers):
         refuse_unless(node in self.nodes, UNKNOWN)
         refuse_unless(name in self.messages or len(self.messages) < MOST_MESSAGES, LIMIT)
@@ -162,35 +171,21 @@ class Project:
     def edit_drop_message(self, name):
         refuse_unless(name in self.messages, UNKNOWN)
         del self.messages[name]
-        self.sources = without_message(self.sources, name)
-        self.sinks = without_message(self.sinks, name)
-        self.receives = without_message(self.receives, name)
+        for table in (self.sources, self.sinks, self.receives):
+            for key in [key for key in table if key[0] == name]:
+                del table[key]
 
     def edit_source(self, name, position, *place):
         refuse_unless(name in self.messages, UNKNOWN)
         self.sources[name, position] = place
 
-    def edit_unsource(self, *key):
-        refuse_unless(key in self.sources, UNKNOWN)
-        del self.sources[key]
-
     def edit_sink(self, name, position, node, *place):
         refuse_unless(name in self.messages and node in self.nodes, UNKNOWN)
         self.sinks[name, position, node] = place
 
-    def edit_unsink(self, *key):
-        refuse_unless(key in self.sinks, UNKNOWN)
-        del self.sinks[key]
-
     def edit_receive(self, name, node, *numbers):
-        refuse_unless(self.version >= 3, RANGE)
         refuse_unless(name in self.messages and node in self.nodes, UNKNOWN)
         self.receives[name, node] = numbers
-
-    def edit_unreceive(self, *key):
-        refuse_unless(self.version >= 3, RANGE)
-        refuse_unless(key in self.receives, UNKNOWN)
-        del self.receives[key]
 
     def edit_event(self, k, event):
         refuse_unless(event.node in self.nodes or event.kind == "nmt" and event.node == 0, UNKNOWN)
@@ -224,7 +219,3 @@ class Project:
         lines += [b"source %s %d %04X %02X" % (name, position, *place) for position, place in self.sources_of(name)]
         lines += [b"sink %s %d %d %04X %02X" % (name, *key, *place) for key, place in sorted(self.sinks_of(name).items())]
         return lines + [b"receive %s %d %d %d" % (name, node, *rest) for node, rest in sorted(self.receives_of(name).items())]
-
-
-def without_message(table, name):
-    return {key: value for key, value in table.items() if key[0] != name}

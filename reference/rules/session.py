@@ -1,13 +1,14 @@
 """A session: the commands of an input and the replies to them: docs/rules/commands.md."""
 from . import concise_dcf
 from .bus import trace_of
-from .commands import NEWEST_VERSION, QUERIES, block_lines, command_of, eds_command, words_of
+from .commands import QUERIES, block_lines, command_of, eds_command, words_of
 from .dcf_text import dcf_text
 from .diagnostics import diagnostics_of
 from .faults import NAMES, SYNTAX, UNKNOWN, Refused, refuse_unless
 from .ini_text import LONGEST_LINE
 from .messages import plan_of
 from .project import Project
+from .versions import WHOLE
 from .writes import node_writes
 
 LONGEST_INPUT = 67_108_864
@@ -18,17 +19,17 @@ class TooLong(Exception):
 
 
 class Session:
-    """A project, and the replies to commands on it. newest: of the versions of scripts that are known. work, if any, counts what
-    was made anew for the answers."""
+    """A project, and the replies to commands on it. parts: those of version 3 that are known. work, if any, counts what was made
+    anew for the answers."""
 
-    def __init__(self, newest=NEWEST_VERSION, work=None):
-        self.project, self.newest, self.work = Project(), newest, work
+    def __init__(self, parts=WHOLE, work=None):
+        self.project, self.work = Project(parts), work
 
     def reply(self, line, block, is_cut):
         """block: the lines that an `eds` line takes, else None; is_cut: the input ended inside them."""
         try:
             refuse_unless(words_of(line), SYNTAX)
-            command = command_of(line, self.newest) if block is None else eds_command(line, block, is_cut)
+            command = command_of(line) if block is None else eds_command(line, block, is_cut)
             if command.word not in QUERIES:
                 self.project.accept(command.word, command.arguments)
                 return b"ok\n"
@@ -62,8 +63,8 @@ def complete_lines(data, goes_on):
     return [line.rstrip(b"\r") for line in (lines[:-1] if goes_on or not lines[-1] else lines)]
 
 
-def replies_to(data, newest=NEWEST_VERSION, work=None):
-    return Session(newest, work).replies_to(data)
+def replies_to(data, parts=WHOLE, work=None):
+    return Session(parts, work).replies_to(data)
 
 
 def answer(project, query):

@@ -21,9 +21,9 @@ OCTAL = re.compile(rb"0[0-7]+")
 PAIRS = re.compile(rb"(?:[0-9A-Fa-f]{2})*")
 
 
-def type_of_code(code, version):
-    """The type of that code in scripts of that version, or None."""
-    return code if code in MODELLED and (version >= 3 or code not in OF_VERSION_3) else None
+def type_of_code(code, has_all):
+    """The type of that code in scripts that have the types of version 3 or not, or None."""
+    return code if code in MODELLED and (has_all or code not in OF_VERSION_3) else None
 
 
 def is_integer(kind):

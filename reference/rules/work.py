@@ -16,6 +16,7 @@ from typing import Dict, List, Optional
 from .bus import WINDOW, Bus, Image, Roster
 from .messages import plan_of
 from .values import OF_VERSION_3, UNSIGNED8, UNSIGNED16, UNSIGNED32
+from .versions import TYPES
 from .write_check import is_tpdo_object
 from .writes import node_writes
 
@@ -79,8 +80,8 @@ class Parts:
 
     def bring_device(self, node):
         """That of the node's text: its sections, its warned lines, and which entries have types of version 3."""
-        name, version_3 = self.project.nodes[node].eds, self.project.version >= 3
-        return self.bring(("Device", name), (self.project.texts[name], version_3), lambda: device_value(self.project.sheets[name]))
+        name, has_types = self.project.nodes[node].eds, self.project.has(TYPES)
+        return self.bring(("Device", name), (self.project.texts[name], has_types), lambda: device_value(self.project.sheets[name]))
 
     def bring_plan(self):
         project = self.project

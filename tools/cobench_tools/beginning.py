@@ -8,6 +8,7 @@ from .joined import Draft, free_name
 from .limits import RATES
 from .machine import message_lines
 from .node_file import name_of
+from .pdo_objects import SentOrTaken
 from .wiring import RPDO, TPDO, Node, pdo_numbers
 
 MANAGER, HEARTBEAT_MS, USUAL_RATE = 127, 100, 500
@@ -18,6 +19,7 @@ WORDS_OF_MESSAGES = """#
 # What the nodes send by their data sheets, as messages. Take the # away from those that the network is to have. Each
 # `sink MESSAGE POS NODE INDEX SUB` says who takes an entry: those that stand here fit by their number of bits alone.
 """.splitlines()
+WORDS_OF_UNUSED = "# A PDO that no message uses is off, where it can be."
 
 
 class Sheet:
@@ -105,10 +107,17 @@ class Beginning:
         kinds = (pdo.kind for node in self.nodes.values() for way in (TPDO, RPDO) for pdo in node.pdos(way))
         return SYNC_US if any(kind is not None and kind <= LAST_SYNCED for kind in kinds) else 0
 
+    @property
+    def version(self):
+        """That of the script: 3 where a PDO that is on can't be set, as one of a fixed mapping, else 2."""
+        sent = (SentOrTaken(node.device, number, TPDO, pdo.number).why_not_sent(self._draft(pdo).message(), pdo.items)
+                for number, node in self.nodes.items() for pdo in node.pdos(TPDO))
+        return 3 if any(sent) else 2
+
     def lines(self):
         """The lines of the script."""
         lines = ["# Begun by cobtool start. `cobtool check` says what is wrong with it, and `cobtool live` shows it.",
-                 "version 2", f"bitrate {self.rate}", "horizon 1000000", "#", *self._manager(), "#", WORDS_OF_SHEETS]
+                 f"version {self.version}", f"bitrate {self.rate}", "horizon 1000000", "#", *self._manager(), "#", WORDS_OF_SHEETS]
         for sheet in self.sheets.values():
             lines.append(f"eds {sheet.name} <{sheet.path}")
         for number in self.nodes:
@@ -138,7 +147,7 @@ class Beginning:
         if not drafts:
             return []
         takers = Takers(self.nodes)
-        return WORDS_OF_MESSAGES + [line for draft in drafts for line in message_of(draft, takers)]
+        return WORDS_OF_MESSAGES + [WORDS_OF_UNUSED] * (self.version == 3) + [line for draft in drafts for line in message_of(draft, takers)]
 
     def _draft(self, pdo):
         suffix = f"_{pdo.number}"

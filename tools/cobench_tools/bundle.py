@@ -5,7 +5,7 @@ import os
 from . import tool
 
 FOLDER = os.path.join(os.path.dirname(os.path.abspath(__file__)), "pages")
-TIMELINE_SCRIPTS = ("elements.js", "timeline_trace.js", "timeline_scale.js", "timeline_lanes.js", "timeline_marks.js",
+TIMELINE_SCRIPTS = ("elements.js", "timeline_bits.js", "timeline_trace.js", "timeline_scale.js", "timeline_lanes.js", "timeline_marks.js",
                     "timeline_flags.js", "timeline_paint.js", "timeline_signals.js", "timeline_cursors.js", "timeline_tips.js",
                     "timeline_gestures.js", "timeline_toolbar.js", "timeline.js")
 TIMELINE_STYLES = ("design.css", "timeline.css")

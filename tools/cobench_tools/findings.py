@@ -3,13 +3,15 @@ from typing import Dict, Iterable, List, Tuple
 
 from . import hints, meaning, pdo_values, safe_text, trace
 from .message_causes import MessageCauses
+from .pdo_causes import PdoCauses
 from .safe_text import shortened
 from .tool import Place
 from .value_causes import ValueCauses
 
 ERROR, WARNING = "error", "warning"
 PDO_VALUES = "pdo-values"
-WARNED = PDO_VALUES, "replaced", "no-source", "no-sink", "late-event", "bit-rate", "taken-twice", "sheet"
+WARNED = PDO_VALUES, "replaced", "no-source", "no-sink", "late-event", "bit-rate", "taken-twice", "receive-time", "sheet"
+OF_PDOS = "tpdo", "rpdo", "limit", "receive"
 MOST_NOTES = 8
 
 
@@ -89,14 +91,15 @@ def refusal_text(refusal):
 
 def part_of(words):
     """The part of a project that a diagnostic with this subject is about."""
-    return "identifiers" if words[0] == "cob" else f"{'node' if words[0] in ('param', 'default') else words[0]} {words[1]}"
+    whose = {"receive": "message", **dict.fromkeys(("param", "default", "tpdo", "rpdo", "limit"), "node")}
+    return "identifiers" if words[0] == "cob" else f"{whose.get(words[0], words[0])} {words[1]}"
 
 
 def diagnosed(evidence):
     """What `diag` says."""
     if not evidence.diagnostics:
         return []
-    of_messages, of_values = MessageCauses(evidence), ValueCauses(evidence)
+    of_messages, of_values, of_pdos = MessageCauses(evidence), ValueCauses(evidence), PdoCauses(evidence)
     found = []
     for line in evidence.diagnostics:
         code, *words = line.split(" ")
@@ -104,7 +107,7 @@ def diagnosed(evidence):
             (place, text), *notes = of_messages.of(code, words[1])
             found.append(Finding(place, line, part_of(words), f"message {words[1]}", text, notes[:MOST_NOTES]))
         else:
-            place, who, text = of_values.of(code, words)
+            place, who, text = of_pdos.of(words) if words[0] in OF_PDOS else of_values.of(code, words)
             found.append(Finding(place, line, part_of(words), who, text))
     return found
 

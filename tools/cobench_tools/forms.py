@@ -14,6 +14,7 @@ FORMS = {
     "message": "NAME ID TPDO TYPE INHIBIT EVENT COB", "start": "MESSAGE START", "drop-message": "NAME",
     "source": "MESSAGE POS INDEX SUB", "unsource": "MESSAGE POS",
     "sink": "MESSAGE POS ID INDEX SUB", "unsink": "MESSAGE POS ID",
+    "receive": "MESSAGE ID RPDO MS", "unreceive": "MESSAGE ID",
     "event": "K TIME set ID INDEX SUB TEXT", "drop-event": "K",
     "dcf": "ID", "cdcf": "ID", "diag": "", "trace": "", "project": "",
 }

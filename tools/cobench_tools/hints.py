@@ -24,6 +24,14 @@ def limit(command, project):
             b"message": "a network has at most 1,024 messages"}.get(command.name)
 
 
+def why_of_this_version(project, version):
+    """What keeps a script from an older version, or None."""
+    if version == 1 and project.mandatory:
+        return f"mandatory: {list_of(sorted(project.mandatory))}"
+    receives = [name for name, message in sorted(project.messages.items()) if message.receives]
+    return f"messages with a receive, which is of version 3: {list_of(receives)}" if version < 3 and receives else None
+
+
 def named(command, project):
     """That a word is the name of a node where its number belongs, or None."""
     first, *rest = [tool.shown(word) for word in command.words]
@@ -86,13 +94,15 @@ class Hints:
         return self.no_part(first, rest, project)
 
     def no_part(self, first, rest, project):
-        """That a node has no such parameter, or a message no such source or sink."""
+        """That a node has no such parameter, or a message no such source, sink or receive."""
         if first == "unparam" and (int(rest[0]), int(rest[1], 16), int(rest[2], 16)) not in project.params:
             return f"node {int(rest[0])} has no such parameter"
         if first == "unsource" and int(rest[1]) not in project.messages[rest[0]].sources:
             return "the message has no source there"
         if first == "unsink" and (int(rest[1]), int(rest[2])) not in project.messages[rest[0]].sinks:
             return "the message has no sink there of that node"
+        if first == "unreceive" and int(rest[1]) not in project.messages[rest[0]].receives:
+            return "the message has no receive of that node"
         return None
 
     def taken(self, command, project):
@@ -108,7 +118,7 @@ class Hints:
 
     def in_use(self, command, project):
         if command.name == b"version":
-            return f"mandatory: {list_of(sorted(project.mandatory))}" if project.mandatory else None
+            return why_of_this_version(project, int(command.words[1]))
         word = tool.shown(command.words[1]) if len(command.words) > 1 else ""
         if command.name == b"drop-eds":
             nodes = [node for node, (_, eds) in sorted(project.nodes.items()) if eds == word]

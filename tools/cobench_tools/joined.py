@@ -2,12 +2,13 @@
 
 A message has to get the RPDO of each receiver that its file says. The plan gives each receiver the least RPDO that
 is free, by the names of the messages (docs/rules/messages.md); so where their natural names stand in another order
-than that in which the RPDOs have to be given, numbers are put in front of them.
+than that in which the RPDOs have to be given, numbers are put in front of them. In version 3 a `receive` names the RPDO.
 """
 from . import plan
 from .device import object_name
+from .pdo_objects import EVENT
 from .project import Message, Project
-from .wiring import RPDO, TPDO, key_and_bits
+from .wiring import COMMUNICATION, RPDO, TPDO, key_and_bits
 
 LONGEST_NAME = 32
 MOST_MESSAGES, GREATEST_START = 1024, 240
@@ -34,10 +35,14 @@ def places_of(pdo):
 
 
 class Draft:
-    """A message to be made of a TPDO; `takers` has the RPDO of each receiver, by its node."""
+    """A message to be made of a TPDO.
+
+    takers    the RPDO of each receiver, by its node
+    receives  for receivers that a receive names the RPDO and its event time in ms, by their nodes: of version 3
+    """
 
     def __init__(self, tpdo, name):
-        self.tpdo, self.name, self.natural_name, self.takers = tpdo, name, name, {}
+        self.tpdo, self.name, self.natural_name, self.takers, self.receives = tpdo, name, name, {}, {}
 
     def sources(self):
         """The sources by position."""
@@ -55,39 +60,46 @@ class Draft:
         words = [str(tpdo.kind or 0), str(tpdo.inhibit), str(tpdo.event), f"{tpdo.identifier:03X}"]
         message = Message(tpdo.node, tpdo.number, words)
         message.start = tpdo.start if tpdo.start <= GREATEST_START else 0
-        message.sources, message.sinks = self.sources(), self.sinks()
+        message.sources, message.sinks, message.receives = self.sources(), self.sinks(), self.receives
         return message
 
 
 class Joined:
-    """The messages of the nodes of several files.
+    """The messages of the nodes of several files, for a script of a version.
 
     drafts  the messages, by the names that they get
     causes  why a PDO of a node is in no message, in words, by node, direction and number
     """
 
-    def __init__(self, files):
-        self.files = {file.number: file for file in files}
+    def __init__(self, files, version=1):
+        self.files, self.version = {file.number: file for file in files}, version
         self.causes = {}
         self.drafts = self._drafts()
         self._give_takers()
         self._name()
         while self._leave_out_faulty():
             self._name()
+        self._leave_out_receives()
 
     def _on(self, direction):
-        """The PDOs of a direction that are on, and that a file sets in part at least, by node and number."""
-        return [pdo for number in sorted(self.files) for pdo in self.files[number].set_pdos(direction)]
+        """The PDOs of a direction that are on, by node and number: before version 3 those that a file sets in part at least;
+        in version 3, where the others are turned off, these behind them."""
+        found = [pdo for number in sorted(self.files) for pdo in self.files[number].set_pdos(direction)]
+        known = {(pdo.node, pdo.number) for pdo in found}
+        others = [pdo for number in sorted(self.files) for pdo in self.files[number].on_pdos(direction)
+                  if pdo.works() and (pdo.node, pdo.number) not in known]
+        return found + others if self.version >= 3 else found
 
     def _drafts(self):
-        """A message for each TPDO that a file sets, or that is on by default and taken by an RPDO that is set."""
+        """A message for each TPDO that a file sets, or that is on by default and taken by an RPDO that is set; in version 3
+        for each that is on."""
         taken = {pdo.identifier for pdo in self._on(RPDO)}
+        set_ones = {(pdo.node, pdo.number) for pdo in self._on(TPDO)}
         names, drafts = set(), []
         for number in sorted(self.files):
             file = self.files[number]
-            set_ones = {pdo.number for pdo in file.set_pdos(TPDO)}
             for tpdo in file.on_pdos(TPDO):
-                if tpdo.number in set_ones or tpdo.identifier in taken:
+                if (number, tpdo.number) in set_ones or tpdo.identifier in taken:
                     drafts.append(Draft(tpdo, free_name(f"{file.name}_{tpdo.number}", names)))
         return drafts
 
@@ -108,6 +120,12 @@ class Joined:
                 draft.takers[rpdo.node] = rpdo
         for draft in self.drafts:
             self._judge_takers(draft)
+            if self.version >= 3:
+                draft.receives = {node: (rpdo.number, self._milliseconds(rpdo)) for node, rpdo in draft.takers.items()}
+
+    def _milliseconds(self, rpdo):
+        """The event time that a file gives an RPDO, 0 where it gives none."""
+        return rpdo.event if (COMMUNICATION[RPDO] + rpdo.number, EVENT) in self.files[rpdo.node].node.written else 0
 
     def _judge_takers(self, draft):
         """What a receiver takes of a message has to stand at the bits of a source; without any it is no receiver."""
@@ -125,11 +143,13 @@ class Joined:
 
     def _drop_taker(self, draft, node, why):
         rpdo = draft.takers.pop(node)
+        draft.receives.pop(node, None)
         self.causes[node, RPDO, rpdo.number] = why
 
     def plan(self):
         """What the plan makes of the messages."""
         project = Project()
+        project.version = self.version
         project.nodes = {number: (file.name, "") for number, file in self.files.items()}
         project.messages = {draft.name: draft.message() for draft in self.drafts}
         return plan.Plan(project, {number: file.device for number, file in self.files.items()})
@@ -154,7 +174,22 @@ class Joined:
         for node in list(draft.takers):
             self._drop_taker(draft, node, f"there is no message {draft.tpdo.identifier:03X}h: {why}")
 
-    # The order that gives each receiver the RPDOs of its file.
+    # The receives, and the order that gives each receiver the RPDOs of its file.
+
+    def _leave_out_receives(self):
+        """A node needs no receives where none has an event time, and it gets the RPDOs of its file without."""
+        wanted = [(draft, draft.receives) for draft in self.drafts]
+        more = {node for _, receives in wanted for node, (_, time) in receives.items() if time}
+        needed = set()
+        while more or not needed:
+            needed |= more
+            for draft, receives in wanted:
+                draft.receives = {node: receives[node] for node in sorted(receives) if node in needed}
+            planned = self.plan().messages
+            more = {node for draft, receives in wanted for node, (number, _) in receives.items()
+                    if planned[draft.name].rpdos[node][0] != number}
+            if not more:
+                return
 
     def _before(self):
         """For each message those that have to come before it: they have the lower RPDOs of a receiver."""
@@ -162,7 +197,7 @@ class Joined:
         owners = {(node, rpdo.number): draft for draft in self.drafts for node, rpdo in draft.takers.items()}
         for draft in self.drafts:
             for node, rpdo in draft.takers.items():
-                fitting = planned.rpdos_that_fit(node, len(draft.tpdo.items))
+                fitting = planned.rpdos_that_fit(planned.messages[draft.name], node)
                 before[draft] |= {owners[node, number] for number in fitting
                                   if number < rpdo.number and (node, number) in owners}
         return before
@@ -179,8 +214,9 @@ class Joined:
         return order
 
     def _name(self):
-        """Gives the messages their natural names, where these stand in a right order, else numbers in front of them."""
-        order = self._order()
+        """Gives the messages their natural names, where these stand in a right order, else numbers in front of them; in version 3
+        any order is right."""
+        order = self._order() if self.version < 3 else sorted(self.drafts, key=lambda draft: draft.natural_name)
         is_natural = order == sorted(order, key=lambda draft: draft.natural_name)
         width = len(str(len(order)))
         for number, draft in enumerate(order, 1):

@@ -29,7 +29,7 @@ def of_run(evidence, said_of=None):
 
     said_of  gives for some nodes what was last said by SDO, where that is known already (findings.last_said)
     """
-    lines = trace.of_answer(evidence.answered.lines("trace"))
+    lines = trace.of_answer(evidence.answered.lines("trace"), evidence.project)
     run = PlannedRun(evidence, lines)
     said_of = said_of or (lambda nodes: findings.last_said(evidence, lines, nodes))
     booted = findings.of_boots(evidence, run.boots, said_of, lambda node, boot: why_not_over(run, node, boot))

@@ -9,7 +9,8 @@ LEAST_SYNC = 1000
 LIMITS = {
     "ID": (1, 127), "TO": (0, 127), "POS": (1, 64), "TPDO": (1, 512), "TYPE": (0, 255), "INHIBIT": (0, 65535),
     "EVENT": (0, 65535), "HB_MS": (0, 65535), "TIMEOUT_MS": (1, 65535), "US": (0, 10_000_000), "K": (1, 10_000),
-    "TIME": (0, 10_000_000), "SYNC_US": (0, 10_000_000), "VERSION": (1, 2), "COUNTER": (0, 240), "START": (0, 240),
+    "TIME": (0, 10_000_000), "SYNC_US": (0, 10_000_000), "VERSION": (1, 3), "COUNTER": (0, 240), "START": (0, 240),
+    "RPDO": (0, 512), "MS": (0, 65535),
 }
 
 
@@ -49,4 +50,6 @@ def out_of_place(command, project):
     """That a command is none of this version, or its lines are no EDS; or None."""
     if command.name == b"need" and project.version == 1:
         return "mandatory nodes are of version 2: the command `version 2` comes first"
+    if command.name in (b"receive", b"unreceive") and project.version < 3:
+        return f"{command.name.decode()} is of version 3: the command `version 3` comes first"
     return script.why_no_eds(b"".join(line + b"\n" for line in command.block or ())) if command.name == b"eds" else None

@@ -3,26 +3,35 @@ import functools
 
 from . import matrix, trace, traffic, waits
 from .responses import Stream, responses
-from .traffic import SYNC, most_bits, plain_bits, time_text
+from .traffic import SYNC, time_text
 
 GREATEST_INHIBIT = 65535
+
+
+def plain(each):
+    """The bits of a frame without stuff bits."""
+    return each.plain_bits
+
+
+def most(each):
+    """The bits of a frame with the most stuff bits."""
+    return each.most_bits
 
 
 class Analysis:
     """The worst case of all frames with a certain number of stuff bits; `of` has that of each traffic.
 
-    bits    gives the bits of a frame by its bytes
+    bits    gives the bits of a frame
     jitter  how long after the clock SYNC may come, beyond the shortest time: TPDOs that it sends may wait so much later
     """
 
     def __init__(self, found, bit, bits):
         self.bit, self.bits, self.jitter = bit, bits, 0
-        self.streams = {each: Stream(each.priority, bits(each.size, each.is_extended) * bit, each.period, each.jitter)
-                        for each in found}
+        self.streams = {each: Stream(each.priority, bits(each) * bit, each.period, each.jitter) for each in found}
         self.of = self._responses()
         sync = next((each for each in found if each.part == ("manager",) and each.identifier == SYNC), None)
         if sync and self.of[sync].wait:
-            self.jitter = self.of[sync].wait - plain_bits(sync.size) * bit
+            self.jitter = self.of[sync].wait - sync.least_bits * bit
             for each in found:
                 self.streams[each].jitter = self.jitter if each.is_of_sync() else each.jitter
             self.of = self._responses()
@@ -43,8 +52,9 @@ class Load:
     """The load of a network.
 
     traffic  all frames, by priority
-    plain    the worst cases without stuff bits, as the simulation has frames
+    plain    the worst cases without stuff bits
     stuffed  the worst cases with the most stuff bits
+    traced   those of these by which the trace goes: in version 3 its frames have stuff bits
     seen     what the trace shows of each
 
     `foreign` are the frames of others on the bus.
@@ -55,13 +65,14 @@ class Load:
         self.bit = 1000 // network.project.bitrate
         self.unbounded = [each for each in traffic.traffic_of(network) if each.period is None]
         self.traffic = traffic.traffic_of(network, assumed, foreign)
-        self.plain, self.stuffed = (Analysis(self.traffic, self.bit, bits) for bits in (plain_bits, most_bits))
-        self.lines = trace.of_answer(lines)
+        self.plain, self.stuffed = (Analysis(self.traffic, self.bit, bits) for bits in (plain, most))
+        self.traced = self.stuffed if trace.has_stuff_bits(network.project) else self.plain
+        self.lines = trace.of_answer(lines, network.project)
         self.seen = waits.Waits(network, self.traffic, self.lines, self.bit).seen
 
     def bits(self, analysis, each):
         """How many bits a frame has."""
-        return analysis.bits(each.size, each.is_extended)
+        return analysis.bits(each)
 
     def deadline(self, each, analysis=None):
         """Within which time a frame has to be there, and what says so."""
@@ -97,7 +108,7 @@ class Load:
     def _holds(self, inhibit):
         """Whether all is in time where those without a bound come at most each 100 us by that number."""
         found = traffic.traffic_of(self.network, 100 * inhibit, self.foreign)
-        analysis = Analysis(found, self.bit, most_bits)
+        analysis = Analysis(found, self.bit, most)
         waits_of = [(each, analysis.of[each].wait) for each in found if each.has_deadline()]
         return all(wait is not None and wait <= self.deadline(each, analysis)[0] for each, wait in waits_of)
 

@@ -55,7 +55,7 @@ class LoadFindings:
 
     def beyond_bound(self, each):
         """That the trace has a longer wait than the analysis allows, or more frames than it counts."""
-        seen, bound = self.load.seen[each], self.load.plain.of[each].wait
+        seen, bound = self.load.seen[each], self.load.traced.of[each].wait
         if bound is None or seen.longest is None:
             return []
         if self.is_sooner(each):
@@ -68,10 +68,10 @@ class LoadFindings:
 
     def is_sooner(self, each):
         """Whether frames come sooner in the trace than they are counted to, where the device doesn't prevent that."""
-        least, bound = self.load.seen[each].least, self.load.plain.of[each].wait
+        least, bound = self.load.seen[each].least, self.load.traced.of[each].wait
         if None in (least, bound, each.period) or not (each.has_event_time_alone() or each.is_assumed):
             return False
-        return least < each.period - (bound - self.load.plain.duration(each))
+        return least < each.period - (bound - each.least_bits * self.load.bit)
 
 
 def assumed(each):

@@ -3,7 +3,7 @@ from . import boots, matrix
 from .findings import milliseconds
 from .report import counted
 from .tables import Table
-from .trace import Note
+from .trace import Note, has_stuff_bits
 from .traffic import most_bits, plain_bits, time_text
 
 NONE = "-"
@@ -69,6 +69,11 @@ def is_sdo(line, node):
     return not isinstance(line, Note) and line.identifier in (0x580 + node, 0x600 + node)
 
 
+def stuffed_bits(load, frame):
+    """The bits of a frame of the trace with its stuff bits; where the trace doesn't count them, with the most."""
+    return frame.bits if has_stuff_bits(load.network.project) else most_bits(len(frame.data))
+
+
 def boot_table(load):
     """What the first boot of each node takes: SDO frames, their time on the bus, and when it was configured."""
     all_boots, rows, sums = boots.boots_of(load.lines), [], [0, 0, 0, 0]
@@ -76,7 +81,8 @@ def boot_table(load):
         first = all_boots.get(number, [None])[0]
         end = first.end if first else None
         frames = [line for line in load.lines if is_sdo(line, number) and (end is None or line.time <= end)]
-        plain, most = (sum(bits(len(frame.data)) for frame in frames) * load.bit for bits in (plain_bits, most_bits))
+        plain = sum(plain_bits(len(frame.data)) for frame in frames) * load.bit
+        most = sum(stuffed_bits(load, frame) for frame in frames) * load.bit
         times = [plain, most, end if first and first.is_configured() else None]
         rows.append([number, load.network.name(number), len(node.written), len(frames), *map(in_milliseconds, times)])
         sums = [each + new for each, new in zip(sums, (len(node.written), len(frames), plain, most))]

@@ -27,16 +27,18 @@ class Lost:
         return RPDO_TYPE if direction == RPDO and self.key[1] == 2 and min(self.wanted, self.made) > 240 else None
 
 
-def lost_values(node, made):
-    """The values of PDO objects that the script makes others, by PDO."""
+def lost_values(node, made, keys):
+    """Those of these values of PDO objects that the script makes others, by PDO."""
     found = {}
-    for key in sorted(node.written):
+    for key in sorted(keys):
         entry = node.device.entries[key]
         if is_of_pdos(key[0]) and matters(node, made, key):
             number = made_number(node, made, key)
-            wanted = int.from_bytes(node.written[key], "little")
-            if number != wanted and not means_the_same(key, wanted, number):
-                found.setdefault(pdo_of(key[0]), []).append(Lost(entry.line, key, wanted, number))
+            wanted = int.from_bytes(node.written[key], "little") if key in node.written else made_number(node, {}, key)
+            lost = Lost(entry.line, key, wanted, number)
+            is_by_chance = key not in node.written and lost.small() == REMOTE_FRAMES       # nobody has chosen that
+            if number != wanted and not means_the_same(key, wanted, number) and not is_by_chance:
+                found.setdefault(pdo_of(key[0]), []).append(lost)
     return found
 
 
@@ -64,14 +66,15 @@ def matters(node, made, key):
     return key[0] == communication or key[1] <= count
 
 
-def warnings(node, made, causes):
+def warnings(node, made, causes, keys=None):
     """The warnings, each a line and words.
 
     made    the number of each entry of PDO objects that the messages write
     causes  why a PDO is in no message, by direction and number
+    keys    the entries that are asked for, without them those of which the file gives values
     """
     found, together = [], {}
-    for pdo, several in lost_values(node, made).items():
+    for pdo, several in lost_values(node, made, node.written if keys is None else keys).items():
         small = {lost.small() for lost in several}
         if None in small:
             found.append(warning(pdo, several, causes.get(pdo)))
@@ -79,6 +82,44 @@ def warnings(node, made, causes):
             for what in small:
                 together.setdefault(what, []).append((min(lost.line for lost in several), pdo))
     return found + [together_warning(what, several) for what, several in together.items()]
+
+
+def is_on(made, pdo):
+    """Whether a PDO that is on in a file is on by the script too."""
+    return not made.get((COMMUNICATION[pdo.direction] + pdo.number, 1), 0) & OFF
+
+
+def unset_and_off(file, made):
+    """The PDOs that are on by the data sheet, of which the file sets nothing, and that the script turns off."""
+    set_ones = {(pdo.direction, pdo.number) for direction in (TPDO, RPDO) for pdo in file.set_pdos(direction)}
+    return [pdo for direction in (TPDO, RPDO) for pdo in file.on_pdos(direction)
+            if (direction, pdo.number) not in set_ones and not is_on(made, pdo)]
+
+
+def all_keys(file, made):
+    """The entries of PDOs that the file gives or the messages write, but for PDOs that these turn off as nothing uses them."""
+    silent = {(pdo.direction, pdo.number) for pdo in unset_and_off(file, made)}
+    return set(file.node.written) | {key for key in made if pdo_of(key[0]) not in silent}
+
+
+def line_of(file, pdo):
+    """The line that has a PDO on by the data sheet."""
+    return file.device.entries[COMMUNICATION[pdo.direction] + pdo.number, 1].line_of("defaultvalue")
+
+
+def silenced(file, made, causes):
+    """A warning for each TPDO that is sent by the data sheet, and off by the script."""
+    return [(line_of(file, pdo), f"TPDO {pdo.number} is on here by the data sheet, and off by the script (COB-ID "
+             f"{pdo.identifier:03X}h){because(causes.get((TPDO, pdo.number)))}")
+            for pdo in unset_and_off(file, made) if pdo.direction == TPDO and pdo.works()]
+
+
+def turned_off(file, made):
+    """What there is to note of the others: nothing is sent or taken by them."""
+    found = [pdo for pdo in unset_and_off(file, made) if pdo.direction == RPDO or not pdo.works()]
+    names = ", ".join(f"{pdo.direction} {pdo.number}" for pdo in found)
+    return [(min(line_of(file, pdo) for pdo in found), f"on by the data sheet, and off by the script, as no message uses "
+             f"{'it' if len(found) == 1 else 'them'}: {names}")] if found else []
 
 
 def warning(pdo, several, why):

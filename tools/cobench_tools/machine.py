@@ -5,7 +5,8 @@ from . import lost_pdos, safe_text, taken_twice, tool
 from .joined import MOST_MESSAGES, Joined, free_name
 from .limits import RATES
 from .node_file import NodeFile
-from .node_values import WARNING, NodeValues
+from .node_values import NOTE, WARNING, NodeValues
+from .pdo_writes import values_of
 from .wiring import RPDO
 
 MOST_SHEETS, MOST_ENTRIES, MOST_NODES = 64, 4096, 127
@@ -35,6 +36,35 @@ def comment(text):
     return f"# {safe_text.readable(text)}"
 
 
+def joined_best(files):
+    """The messages of the files, and what there is to tell of the PDOs of each node: by version 3 where less is lost so."""
+    old = Joined(files)
+    lost = told_of_pdos(old)
+    if not any(lost.values()):
+        return old, lost
+    new = Joined(files, 3)
+    told = told_of_pdos(new)
+    return (new, told) if count_of_warnings(told) < count_of_warnings(lost) else (old, lost)
+
+
+def count_of_warnings(told):
+    return sum(severity == WARNING for several in told.values() for _, severity, _ in several)
+
+
+def told_of_pdos(joined):
+    """What there is to tell of the PDOs of each node: a line, `warning` or `note`, and words each, by the nodes."""
+    plan, found = joined.plan(), {}
+    for number, file in joined.files.items():
+        causes = {(direction, at): why for (node, direction, at), why in joined.causes.items() if node == number}
+        made = values_of(plan, number)
+        keys = lost_pdos.all_keys(file, made) if joined.version >= 3 else None
+        lost = lost_pdos.warnings(file.node, made, causes, keys) + taken_twice.warnings(file, made)
+        lost += lost_pdos.silenced(file, made, causes)
+        found[number] = [(line, WARNING, words) for line, words in lost]
+        found[number] += [(line, NOTE, words) for line, words in lost_pdos.turned_off(file, made)]
+    return found
+
+
 class Machine:
     """The nodes of several DCFs, with the messages between them.
 
@@ -47,23 +77,19 @@ class Machine:
         self.files = read_files(paths)
         self.sheets, self.sheet_of = {}, {}
         self._share_sheets()
-        self.joined = Joined(self.files)
+        self.joined, lost = joined_best(self.files)
         if len(self.joined.drafts) > MOST_MESSAGES:
             raise tool.Fault(f"they have {len(self.joined.drafts):,} messages, and cobench takes {MOST_MESSAGES:,}")
         self.values = {file.number: NodeValues(file, with_defaults) for file in self.files}
         self.bitrate = next((file.bitrate for file in self.files if file.bitrate in RATES), None)
-        plan = self.joined.plan()
-        self.told = [(file.path, *each) for file in self.files for each in sorted(self._told_of(file, plan))]
+        self.told = [(file.path, *each) for file in self.files for each in sorted(lost[file.number] + self._told_of(file))]
 
-    def _told_of(self, file, plan):
-        """What there is to tell of a file: a line, `warning` or `note`, and words each."""
-        causes = {(direction, number): why for (node, direction, number), why in self.joined.causes.items()
-                  if node == file.number}
-        lost = lost_pdos.warnings(file.node, plan.values(file.number), causes)
+    def _told_of(self, file):
+        """What there is to tell of a file but for its PDOs: a line, `warning` or `note`, and words each."""
+        lost = []
         if file.bitrate not in (None, self.bitrate):
             network = f"the network has {self.bitrate}" if self.bitrate else "cobench has no such bit rate"
             lost.append((file.line, f"Baudrate is {file.bitrate} kbit/s; {network}"))
-        lost += taken_twice.warnings(file, plan.values(file.number))
         dropped = ", ".join(f"{key}={value} (line {line})" for line, key, value in file.dropped)
         if dropped:
             lost.append((file.dropped[0][0], f"the script has no word for what the commissioning section says besides: {dropped}"))
@@ -100,7 +126,8 @@ class Machine:
         return [line.encode("utf-8", "surrogateescape") for line in lines]
 
     def _settings(self):
-        lines = [f"bitrate {self.bitrate}"] if self.bitrate else []
+        lines = [f"version {self.joined.version}"] if self.joined.version > 1 else []
+        lines += [f"bitrate {self.bitrate}"] if self.bitrate else []
         taken = {file.number for file in self.files}
         manager = max(number for number in range(1, 128) if number not in taken)
         sync = self._sync()
@@ -129,9 +156,10 @@ class Machine:
                         for key, text in self.values[file.number].parameters]
 
     def _takers_by_default(self):
-        """The RPDOs that are on without a value in a file: their nodes' files and their numbers, by identifier."""
+        """The RPDOs that are on without a value in a file: their nodes' files and their numbers, by identifier. In version 3
+        what can be is off, and `diag` has the others (W24)."""
         found = {}
-        for file in self.files:
+        for file in self.files if self.joined.version < 3 else ():
             set_ones = {pdo.number for pdo in file.set_pdos(RPDO)}
             for pdo in file.on_pdos(RPDO):
                 if pdo.number not in set_ones:
@@ -152,5 +180,6 @@ def message_lines(draft):
     lines = ["#", f"message {draft.name} {tpdo.node} {tpdo.number} {' '.join(message.words)}"]
     lines += [f"start {draft.name} {message.start}"] if message.start else []
     lines += [f"source {draft.name} {position} {key[0]:04X} {key[1]:X}" for position, key in message.sources.items()]
-    return lines + [f"sink {draft.name} {position} {node} {key[0]:04X} {key[1]:X}"
-                    for (position, node), key in sorted(message.sinks.items())]
+    lines += [f"sink {draft.name} {position} {node} {key[0]:04X} {key[1]:X}"
+              for (position, node), key in sorted(message.sinks.items())]
+    return lines + [f"receive {draft.name} {node} {number} {time}" for node, (number, time) in sorted(message.receives.items())]

@@ -74,8 +74,18 @@ def message_name(network, tpdo):
     return network.message_of(tpdo) or "(by default)"
 
 
+def within(milliseconds):
+    """Within which time a receiver expects a frame, in words behind others, "" where it expects none."""
+    return f", within {milliseconds} ms" if milliseconds else ""
+
+
+def receiver_text(network, pdo):
+    """Who takes a message by which RPDO, and within which time a frame is expected."""
+    return f"{network.name(pdo.node)} (RPDO {pdo.number}{within(pdo.event)})"
+
+
 def receivers_text(network, tpdo):
-    return ", ".join(f"{network.name(pdo.node)} (RPDO {pdo.number})" for pdo in network.receivers(tpdo)) or NONE
+    return ", ".join(receiver_text(network, pdo) for pdo in network.receivers(tpdo)) or NONE
 
 
 def messages_table(network):

@@ -14,7 +14,7 @@ class Seen:
             "event time [ms]": tpdo.event or "-", "SYNC start value": tpdo.start or "-"}
         self.signals = {part.start: f"{object_name(part.key)} {part.entry.name} of {part.bits} bits"
                         for part in tpdo.parts}
-        self.receivers = {network.name(pdo.node): f"RPDO {pdo.number}" for pdo in network.receivers(tpdo)}
+        self.receivers = {network.name(pdo.node): f"RPDO {pdo.number}{matrix.within(pdo.event)}" for pdo in network.receivers(tpdo)}
         self.targets = {(network.name(pdo.node), other.start): f"{object_name(other.key)} {other.entry.name}"
                         for part in tpdo.parts for pdo, other in network.targets(tpdo, part)}
 

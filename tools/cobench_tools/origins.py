@@ -8,7 +8,7 @@ from .script import MOST_KNOWN, shown_words_in
 PARTS = {
     "manager": (), "sync-counter": (), "horizon": (), "eds": (str,), "node": (decimal,),
     "param": (decimal, hexadecimal, hexadecimal), "event": (decimal,), "message": (str,), "start": (str,),
-    "source": (str, decimal), "sink": (str, decimal, decimal),
+    "source": (str, decimal), "sink": (str, decimal, decimal), "receive": (str, decimal),
 }
 
 

@@ -20,7 +20,7 @@ from operator import itemgetter, sub
 from . import meaning, safe_text
 from .boots import is_boot_up
 from .device import BOOLEAN, SIGNED
-from .trace import Foreign, Note
+from .trace import Foreign, Note, is_stuffed
 
 OTHERS = -1
 FIRST_STATE = "pre-operational"
@@ -50,7 +50,7 @@ class Sorts:
         key = identifier, said.kind, OTHERS if said.sender is None else said.sender, len(line.data), text_of(said)
         place = self._places.setdefault(key, len(self.rows))
         if place == len(self.rows):
-            bits = [line.bits] if said.kind == meaning.OTHER else []
+            bits = [line.bits] if isinstance(line, Foreign) else []
             self.rows.append([key[0] or 0, meaning.KINDS.index(said.kind)] + list(key[2:]) + bits)
         return place
 
@@ -258,6 +258,7 @@ class Picture:
 
     def __init__(self, shown):
         self.project, self.bit, self.end = shown.project, shown.bit, shown.end
+        self.counted = {"stuffed": True} if is_stuffed(shown.lines) else {}
         self.network, self.sorts = shown.network(with_names=True), Sorts()
         self.drawing = Drawing(self.network, self.sorts)
         self.window = self.drawing.window(0, shown.lines)
@@ -281,5 +282,5 @@ class Picture:
             "kinds": meaning.KINDS, "stateNames": STATES, "lanes": self.lanes(),
             "states": states_of(self.nodes(), moments_of(self.events, [self.window])),
             "windows": [self.window.content()], "sorts": self.sorts.rows,
-            "events": [event_flag(self.network, *each) for each in self.events],
+            "events": [event_flag(self.network, *each) for each in self.events], **self.counted,
         }

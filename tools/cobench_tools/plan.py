@@ -2,17 +2,15 @@
 
 It is for telling causes and for laying out scripts; what counts is what cobench itself answers.
 """
-from collections import namedtuple
-
 from . import values
 from .device import BITS, object_name
-from .wiring import COMMUNICATION, MOST_PDOS, RPDO, TPDO, is_restricted
+from .pdo_objects import EVENT, INHIBIT, START
+from .planned_message import DUMMIES, Cause, Planned, first_sink, numbers_text, why_no_dummy
+from .vendor_pdo import pdo_objects
+from .wiring import COMMUNICATION, RPDO, TPDO, is_restricted, pdo_numbers
 
-UNSIGNED8, UNSIGNED16, UNSIGNED32 = 0x05, 0x06, 0x07
-DUMMIES = {1: 0x01, 8: 0x05, 16: 0x06, 32: 0x07}
 LEAST_IDENTIFIER = 0x181
 POOL = range(0x681, 0x6E0)
-OFF, NO_RTR = 1 << 31, 1 << 30
 
 
 def item(key, bits):
@@ -25,51 +23,14 @@ SERVICES = ((0x000, 0x07F, "NMT"), (0x080, 0x0FF, "SYNC or EMCY"), (0x101, 0x180
             (0x601, 0x67F, "SDO"), (0x6E0, 0x6FF, "CiA 301"), (0x701, 0x7FF, "heartbeats"))
 
 
-class Cause(namedtuple("Cause", "words node part other code")):
-    """Why a message has a fault.
-
-    words  the cause
-    node   the number of the receiver at fault, None where it is the sender
-    part   which part of the message it is about: `("source", 1)`, `("sink", 1, 5)`, `("start",)`, or () for all of it
-    other  the name of the message that has what this one would need, None where it isn't that
-    code   the code of the diagnostic
-    """
-
-    __slots__ = ()
-
-    def __new__(cls, words, node=None, part=(), other=None, code=""):
-        return super().__new__(cls, words, node, part, other, code)
-
-
-class Planned:
-    """What the plan makes of a message.
-
-    faults      its faults in the order of their codes, each a Cause; without one it is clean
-    identifier  the COB-ID of its frames
-    mapping     the mapping entries of its TPDO
-    rpdos       the RPDO of each consumer, and the mapping entries of that
-    """
-
-    def __init__(self, name, message):
-        self.name, self.message = name, message
-        self.faults, self.identifier, self.mapping, self.rpdos = [], None, [], {}
-
-    @property
-    def sources(self):
-        """Its sources by position."""
-        return sorted(self.message.sources.items())
-
-    @property
-    def consumers(self):
-        return sorted({node for _, node in self.message.sinks})
-
-
 class Plan:
     """The plan of a project, with the data sheet of each node; `messages` has each message planned, by name."""
 
     def __init__(self, project, devices):
         self.project, self.devices = project, devices
         self._tpdos, self._rpdos, self._identifiers, self.messages = {}, {}, {}, {}
+        self._fixed, self._closed_rpdos = self._fixed_pdos()
+        self._kept = self._kept_rpdos()
         for name, message in sorted(project.messages.items()):
             planned = self.messages[name] = Planned(name, message)
             self._judge(planned)
@@ -78,9 +39,10 @@ class Plan:
 
     def _judge(self, planned):
         """Finds the faults of a message, in the order of their codes."""
-        wanted = planned.message.numbers[3]
-        planned.identifier = wanted or self._automatic(planned.message)
-        planned.mapping = [item(key, self._width(planned.message.node, key) or 0) for _, key in planned.sources]
+        message = planned.message
+        fixed = self.pdo(message.node, TPDO, message.tpdo).fixed_identifier()
+        planned.identifier = (message.numbers[3] or self._automatic(message)) if fixed is None else fixed
+        planned.mapping = [self._item(key, self._width(message.node, key)) for _, key in planned.sources]
         for code, causes in (("E05", self._no_objects), ("E06", self._tpdo_taken), ("E07", self._too_many_bits),
                              ("E08", self._not_mappable), ("E09", self._mismatched), ("E10", self._no_rpdo),
                              ("E11", self._no_dummy), ("E12", self._bad_identifier), ("E13", self._no_identifier),
@@ -94,6 +56,36 @@ class Plan:
         self._identifiers[planned.identifier] = planned.name
         for node, (rpdo, _) in planned.rpdos.items():
             self._rpdos[node, rpdo] = planned.name
+
+    # What the project fixes.
+
+    def pdo(self, node, direction, number):
+        """The objects of a PDO of a node."""
+        return pdo_objects(self.project.version, self.devices[node], node, direction, number)
+
+    def _fixed_pdos(self):
+        """The fixed identifiers of all closed PDOs, and the closed RPDOs of each node by their identifiers: of version 3."""
+        identifiers, rpdos = set(), {}
+        for node in self.devices if self.project.version >= 3 else ():
+            for direction in (TPDO, RPDO):
+                for number in self.pdo_numbers(node, direction):
+                    fixed = self.pdo(node, direction, number).fixed_identifier()
+                    identifiers.add(fixed)
+                    if direction == RPDO and fixed is not None:
+                        rpdos.setdefault((node, fixed), []).append(number)
+        return identifiers, rpdos
+
+    def _kept_rpdos(self):
+        """The messages whose receives name an RPDO of a node that takes them: by node and RPDO."""
+        kept = {}
+        for name, message in sorted(self.project.messages.items()):
+            takers = {node for _, node in message.sinks}
+            for node, (number, _) in message.receives.items():
+                if number and node in takers:
+                    kept.setdefault((node, number), []).append(name)
+        return kept
+
+    # Names.
 
     def _name(self, node):
         """A node in words: `node 5 pump`."""
@@ -115,29 +107,30 @@ class Plan:
 
     def pdo_numbers(self, node, direction):
         """The numbers of the PDOs of which a node has a communication object."""
-        first = COMMUNICATION[direction]
-        return sorted(index - first for index, sub in self.devices[node].entries if sub == 1 and 1 <= index - first <= MOST_PDOS)
+        return pdo_numbers(self.devices[node], direction)
 
     def _no_objects(self, planned):
         message = planned.message
         numbers = self.pdo_numbers(message.node, TPDO)
         if message.tpdo not in numbers:
             return [Cause(f"{self._name(message.node)} has no TPDO {message.tpdo}; it has {numbers_text(numbers)}")]
-        for key, kind, need in tpdo_entries(message):
-            why = self._not_written(message.node, key, kind)
-            if why:
-                words = f"TPDO {message.tpdo} of {self._name(message.node)} can't be set: {why}{need}"
-                return [Cause(words, part=("start",) if key[1] == 6 and key[0] < 0x1A00 else ())]
-        return []
+        fault = self.pdo(message.node, TPDO, message.tpdo).why_not_sent(message, planned.mapping)
+        if fault is None:
+            return []
+        (index, sub), why = fault
+        is_of_mapping = index != COMMUNICATION[TPDO] + message.tpdo
+        words = f"TPDO {message.tpdo} of {self._name(message.node)} can't be set: {why}{self._need(message, is_of_mapping, sub)}"
+        return [Cause(words, part=("start",) if sub == START and not is_of_mapping else ())]
 
-    def _not_written(self, node, key, kind):
-        """Why an entry can't be written as one of a data type, or None."""
-        entry = self._entry(node, key)
-        if not entry:
-            return f"{object_name(key)} isn't there"
-        if entry.kind != kind:
-            return f"{self._described(node, key)} is {values.type_name(entry.kind)}, and not {values.type_name(kind)}"
-        return None if entry.is_writable() else f"{self._described(node, key)} is {entry.access}, and can't be written"
+    def _need(self, message, is_of_mapping, sub):
+        """What needs an entry of the TPDO of a message, in words behind others, "" where that is known."""
+        if self.project.version >= 3:
+            return ""
+        if is_of_mapping:
+            return f"; source {sub} of {len(message.sources)} needs it" if sub else ""
+        _, inhibit, event, _ = message.numbers
+        given = {INHIBIT: f"INHIBIT {inhibit}", EVENT: f"EVENT {event}", START: f"start value {message.start}"}
+        return f"; {given[sub]} needs it" if sub in given else ""
 
     # E06, E07.
 
@@ -194,42 +187,82 @@ class Plan:
 
     # E10, E11: the RPDOs of the consumers and what they map.
 
-    def _not_fitting(self, node, number, count):
-        """Why an RPDO can't be written with that many mapping entries, or None."""
-        reasons = (self._not_written(node, key, kind) for key, kind in rpdo_entries(number, count))
-        return next(filter(None, reasons), None)
+    def rpdos_that_fit(self, planned, node):
+        """The RPDOs of a node that can take a message, by number."""
+        items = self._items(planned, node)
+        return [number for number in self.pdo_numbers(node, RPDO) if self._fits(planned, node, number, planned.identifier, items)]
 
-    def rpdos_that_fit(self, node, count):
-        """The RPDOs of a node that can be written with that many mapping entries, by number."""
-        return [number for number in self.pdo_numbers(node, RPDO) if not self._not_fitting(node, number, count)]
+    def _fits(self, planned, node, number, identifier, items):
+        return self.pdo(node, RPDO, number).fits(planned.message, identifier, items, planned.dummies(node))
 
     def _no_rpdo(self, planned):
         causes = []
         for node in planned.consumers:
-            fitting = self.rpdos_that_fit(node, len(planned.sources))
-            free = [number for number in fitting if (node, number) not in self._rpdos]
-            planned.rpdos[node] = free[0] if free else None, self._items(planned, node)
-            if not free:
-                causes.append(Cause(self._why_no_rpdo(node, len(planned.sources)), node, first_sink(planned, node)))
+            items = self._items(planned, node)
+            free = self._free_rpdo(planned, node, items)
+            planned.rpdos[node] = free, items
+            if free is None:
+                causes.append(self._why_no_rpdo(planned, node, items))
         return causes
 
-    def _why_no_rpdo(self, node, count):
-        """Why a node has no RPDO left for a message of that many values."""
-        reasons = [f"RPDO {number} takes {self._rpdos[node, number]}" if (node, number) in self._rpdos
-                   else f"RPDO {number}: {self._not_fitting(node, number, count)}" for number in self.pdo_numbers(node, RPDO)]
+    def _free_rpdo(self, planned, node, items):
+        """The RPDO by which a consumer takes a message, or None: the one that its receive names, else the least closed one with
+        its identifier, else the least; none that a receive keeps for another message."""
+        named = planned.message.receives.get(node, (0, 0))[0]
+        closed = self._closed_rpdos.get((node, planned.identifier), [])
+        several = [named] if named else [number for number in (*closed, *self.pdo_numbers(node, RPDO))
+                                         if not self._keepers(planned, node, number)]
+        return next((number for number in several if (node, number) not in self._rpdos
+                     and self._fits(planned, node, number, planned.identifier, items)), None)
+
+    def _keepers(self, planned, node, number):
+        """The other messages for which receives keep an RPDO."""
+        return [name for name in self._kept.get((node, number), ()) if name != planned.name]
+
+    def _why_no_rpdo(self, planned, node, items):
+        """Why a node has no RPDO left for a message."""
+        named, count = planned.message.receives.get(node, (0, 0))[0], len(planned.sources)
+        if named:
+            words = f"RPDO {named} of {self._name(node)} can't take it: {self._why_not_taken(planned, node, named, items)}"
+            return Cause(words, node, ("receive", node))
+        reasons = [f"RPDO {number}: {self._why_not_taken(planned, node, number, items)}" for number in self.pdo_numbers(node, RPDO)]
+        reasons = [each.replace(": it takes ", " takes ") for each in reasons]
         more = [f"{len(reasons) - 6} more likewise"] if len(reasons) > 6 else []
         has = "; ".join(reasons[:6] + more) or "it has none"
-        return f"{self._name(node)} has no RPDO left for {count} value{'' if count == 1 else 's'}: {has}"
+        words = f"{self._name(node)} has no RPDO left for {count} value{'' if count == 1 else 's'}: {has}"
+        return Cause(words + self._what_would_do(planned, node, items), node, first_sink(planned, node))
+
+    def _why_not_taken(self, planned, node, number, items):
+        """Why an RPDO of a node doesn't take a message, in words."""
+        if (node, number) in self._rpdos:
+            return f"it takes {self._rpdos[node, number]}"
+        if not planned.message.receives.get(node, (0, 0))[0] and self._keepers(planned, node, number):
+            return f"a receive keeps it for {self._keepers(planned, node, number)[0]}"
+        return self.pdo(node, RPDO, number).why_not_taken(planned.message, planned.identifier, items, planned.dummies(node))
+
+    def _what_would_do(self, planned, node, items):
+        """By which COB an RPDO with a fixed identifier would take a message, in words behind others, "" for none."""
+        message = planned.message
+        if not self.pdo(message.node, TPDO, message.tpdo).is_open():
+            return ""
+        for number in self.pdo_numbers(node, RPDO):
+            fixed = self.pdo(node, RPDO, number).fixed_identifier()
+            is_had = fixed is None or (node, number) in self._rpdos or self._keepers(planned, node, number)
+            if not is_had and not self._why_no_identifier(fixed) and self._fits(planned, node, number, fixed, items):
+                return f"; with COB {fixed:03X} RPDO {number} would take it"
+        return ""
 
     def _items(self, planned, node):
-        """The mapping entries of a consumer: for each source its sink, else a dummy as wide."""
+        """The mapping entries of a consumer: for each source its sink, else a dummy as wide, None where neither can be."""
         items = []
         for position, key in planned.sources:
             bits = self._width(planned.message.node, key)
             sink = planned.message.sinks.get((position, node))
-            if sink or bits in DUMMIES:
-                items.append(item(sink or (DUMMIES[bits], 0), bits or 0))
+            items.append(self._item(sink or (DUMMIES.get(bits), 0), bits if sink or bits in DUMMIES else None))
         return items
+
+    def _item(self, key, bits):
+        return None if bits is None else item(key, bits)
 
     def _no_dummy(self, planned):
         causes = []
@@ -248,16 +281,35 @@ class Plan:
 
     def _bad_identifier(self, planned):
         wanted = planned.message.numbers[3]
+        if wanted and wanted != planned.identifier:
+            return [Cause(self._fixed_words(planned) + ("" if self._why_no_identifier(planned.identifier)
+                                                        else f": COB {planned.identifier:03X} would do, or 0"))]
+        return self._why_no_identifier(wanted) if wanted else []
+
+    def _why_no_identifier(self, wanted):
+        """Why no message can have an identifier: a cause, or none."""
         other = self._identifiers.get(wanted)
         if other:
             return [Cause(f"{wanted:03X}h is the identifier of message {other}", other=other)]
-        if not wanted or wanted >= LEAST_IDENTIFIER and not is_restricted(wanted):
+        if wanted >= LEAST_IDENTIFIER and not is_restricted(wanted):
             return []
         service = next((f"belongs to {service}" for low, high, service in SERVICES if low <= wanted <= high), None)
         return [Cause(f"{wanted:03X}h {service or 'is below 181h, where PDOs begin'}")]
 
+    def _fixed_words(self, planned):
+        """That the TPDO of a message has a fixed identifier, in words."""
+        message = planned.message
+        tpdo = self.pdo(message.node, TPDO, message.tpdo)
+        return (f"TPDO {message.tpdo} of {self._name(message.node)} is sent with {planned.identifier:03X}h alone, "
+                f"as {tpdo.why_closed()}")
+
     def _no_identifier(self, planned):
-        return [Cause("no identifier from 681h to 6DFh is free")] if planned.identifier is None else []
+        if planned.message.numbers[3]:
+            return []
+        if planned.identifier is None:
+            return [Cause("no identifier from 681h to 6DFh is free")]
+        return [cause._replace(words=f"{self._fixed_words(planned)}: {cause.words}")
+                for cause in self._why_no_identifier(planned.identifier)]
 
     def _reserved_type(self, planned):
         kind = planned.message.numbers[0]
@@ -266,86 +318,15 @@ class Plan:
 
     def _automatic(self, message):
         """The predefined identifier of a TPDO where it is free, else the least that is, else None."""
-        predefined = 0x80 + 0x100 * message.tpdo + message.node
-        if message.tpdo <= 4 and predefined not in self._identifiers:
-            return predefined
-        return next((each for each in POOL if each not in self._identifiers), None)
+        predefined = [0x80 + 0x100 * message.tpdo + message.node] if message.tpdo <= 4 else []
+        return next((each for each in (*predefined, *POOL) if each not in self._identifiers and each not in self._fixed), None)
 
-    # What it writes.
+    # Who has the PDOs.
 
     def sender_of(self, node, tpdo):
         """The message that a TPDO sends, None where none does."""
         return self._tpdos.get((node, tpdo))
 
-    def values(self, node):
-        """The number that each entry of a node's PDO objects has once all clean messages are written."""
-        written = {}
-        for planned in self.messages.values():
-            if not planned.faults and planned.message.node == node:
-                self._write_tpdo(written, planned)
-            if not planned.faults and node in planned.rpdos:
-                number, items = planned.rpdos[node]
-                index = COMMUNICATION[RPDO] + number
-                written.update(communication(index, planned.identifier, 0 if planned.message.numbers[0] <= 240 else 255))
-                written.update(mapping(index + 0x200, items))
-        return written
-
-    def _write_tpdo(self, written, planned):
-        message = planned.message
-        kind, inhibit, event, _ = message.numbers
-        index = COMMUNICATION[TPDO] + message.tpdo
-        written.update(communication(index, NO_RTR | planned.identifier, kind))
-        for sub, kind, number in ((3, UNSIGNED16, inhibit), (5, UNSIGNED16, event), (6, UNSIGNED8, message.start)):
-            if not self._not_written(message.node, (index, sub), kind):
-                written[index, sub] = number
-        written.update(mapping(index + 0x200, planned.mapping))
-
-
-def numbers_text(numbers):
-    """Numbers in words: `1, 2, 5`, `1 to 4`, `none`."""
-    if len(numbers) > 2 and numbers[-1] - numbers[0] == len(numbers) - 1:
-        return f"{numbers[0]} to {numbers[-1]}"
-    return ", ".join(map(str, numbers)) or "none"
-
-
-def first_sink(planned, node):
-    """The part of a message that is the first sink of a consumer."""
-    return "sink", min(position for position, each in planned.message.sinks if each == node), node
-
-
-def why_no_dummy(bits):
-    """Why a consumer can't skip that many bits."""
-    if bits not in DUMMIES:
-        return f"there is no dummy of {bits} bits to skip it"
-    return f"allows no dummy of {bits} bits to skip it ([DummyUsage] Dummy000{DUMMIES[bits]})"
-
-
-def tpdo_entries(message):
-    """The entries that are written for the TPDO of a message: each with its data type, and what needs it."""
-    index, room = COMMUNICATION[TPDO] + message.tpdo, len(message.sources)
-    _, inhibit, event, _ = message.numbers
-    entries = [((index, 1), UNSIGNED32, ""), ((index, 2), UNSIGNED8, "")]
-    entries += [((index, 3), UNSIGNED16, f"; INHIBIT {inhibit} needs it")] if inhibit else []
-    entries += [((index, 5), UNSIGNED16, f"; EVENT {event} needs it")] if event else []
-    entries += [((index, 6), UNSIGNED8, f"; start value {message.start} needs it")] if message.start else []
-    needs = {0: "", **{sub: f"; source {sub} of {room} needs it" for sub in range(1, room + 1)}}
-    return entries + [(key, kind, needs[key[1]]) for key, kind in mapping_entries(index + 0x200, room)]
-
-
-def rpdo_entries(number, count):
-    """The entries that are written for an RPDO with that many mapping entries, each with its data type."""
-    index = COMMUNICATION[RPDO] + number
-    return [((index, 1), UNSIGNED32), ((index, 2), UNSIGNED8)] + mapping_entries(index + 0x200, count)
-
-
-def mapping_entries(index, count):
-    """The entries of a mapping object that are written with that many mapped, each with its data type."""
-    return [((index, 0), UNSIGNED8)] + [((index, sub), UNSIGNED32) for sub in range(1, count + 1)]
-
-
-def communication(index, identifier, kind):
-    return {(index, 1): identifier, (index, 2): kind}
-
-
-def mapping(index, items):
-    return {(index, 0): len(items), **{(index, sub): each for sub, each in enumerate(items, 1)}}
+    def rpdo_messages(self, node):
+        """The clean messages that a node takes, by RPDO."""
+        return {planned.rpdos[node][0]: planned for planned in self.messages.values() if not planned.faults and node in planned.rpdos}

@@ -17,7 +17,10 @@ EDIT = re.compile("[a-z]+(-[a-z]+)?")
 
 
 class Message:
-    """What one node sends in one TPDO; `words` are those of its command from TYPE on, and `numbers` what they are."""
+    """What one node sends in one TPDO; `words` are those of its command from TYPE on, and `numbers` what they are.
+
+    receives  for nodes that a `receive` names its RPDO, 0 for the one that the plan gives, and its event time in ms
+    """
 
     def __init__(self, node: int, tpdo: int, words: Sequence[str]) -> None:
         self.node, self.tpdo, self.words = node, tpdo, words
@@ -25,6 +28,7 @@ class Message:
         self.start = 0
         self.sources: Dict[int, Tuple[int, int]] = {}
         self.sinks: Dict[Tuple[int, int], Tuple[int, int]] = {}
+        self.receives: Dict[int, Tuple[int, int]] = {}
 
 
 def numbers_of(kind: str, inhibit: str, event: str, identifier: str) -> Tuple[int, int, int, int]:
@@ -86,6 +90,7 @@ class Project:
         found = [f"message {name} is sent by it" for name, message in sorted(self.messages.items()) if message.node == node]
         for name, message in sorted(self.messages.items()):
             found += [f"sink {name} {at} is of it" for at, sink in sorted(message.sinks) if sink == node]
+            found += [f"a receive of {name} names it"] if node in message.receives else []
         return found + [f"event {key} is of it" for key, event in sorted(self.events.items()) if event.node == node]
 
     def _bitrate(self, command: Command, words: List[str]) -> None:
@@ -143,6 +148,7 @@ class Project:
         known = self.messages.get(words[0])
         if known:
             message.start, message.sources, message.sinks = known.start, known.sources, known.sinks
+            message.receives = known.receives
         self.messages[words[0]] = message
 
     def _start(self, command: Command, words: List[str]) -> None:
@@ -163,6 +169,12 @@ class Project:
 
     def _unsink(self, command: Command, words: List[str]) -> None:
         self.messages[words[0]].sinks.pop((decimal(words[1]), decimal(words[2])))
+
+    def _receive(self, command: Command, words: List[str]) -> None:
+        self.messages[words[0]].receives[self.node_there(words[1])] = decimal(words[2]), decimal(words[3])
+
+    def _unreceive(self, command: Command, words: List[str]) -> None:
+        del self.messages[words[0]].receives[decimal(words[1])]
 
     def _event(self, command: Command, words: List[str]) -> None:
         kind = words[2]

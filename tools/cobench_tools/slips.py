@@ -1,19 +1,21 @@
-"""Slips of a script: what a later line replaces, messages with nobody at an end, late events, bit rates."""
+"""Slips of a script: what a later line replaces, messages with nobody at an end, receivers that expect one sooner than it comes,
+late events, bit rates."""
 from .device import read_number
 from .findings import Finding, milliseconds
 from .safe_text import shortened
 from .origins import part_of
 
 REPLACED, NO_SOURCE, NO_SINK, LATE_EVENT, BIT_RATE = "replaced", "no-source", "no-sink", "late-event", "bit-rate"
+RECEIVE_TIME, LAST_SYNCED = "receive-time", 240
 QUERIES = b"dcf", b"cdcf", b"diag", b"trace", b"project"
-REPLACEABLE = "node", "message", "param", "event", "source", "sink"
-DROPS = {"drop-node": ("node", "param"), "drop-message": ("message", "source", "sink"), "drop-event": ("event",),
-         "unparam": ("param",), "unsource": ("source",), "unsink": ("sink",)}
+REPLACEABLE = "node", "message", "param", "event", "source", "sink", "receive"
+DROPS = {"drop-node": ("node", "param"), "drop-message": ("message", "source", "sink", "receive"), "drop-event": ("event",),
+         "unparam": ("param",), "unsource": ("source",), "unsink": ("sink",), "unreceive": ("receive",)}
 
 
 def of(evidence):
     """The slips of a script, as warnings."""
-    return replaced(evidence.answered.pairs) + open_ends(evidence) + late_events(evidence) + bit_rates(evidence)
+    return replaced(evidence.answered.pairs) + open_ends(evidence) + short_times(evidence) + late_events(evidence) + bit_rates(evidence)
 
 
 # Lines that a later line replaces, with no query between that they serve.
@@ -61,7 +63,7 @@ def replacement(part, before, command):
 
 def part_name(part):
     """The part of a project that a part is of, as findings name it."""
-    kind = {"param": "node", "source": "message", "sink": "message"}.get(part[0], part[0])
+    kind = {"param": "node", "source": "message", "sink": "message", "receive": "message"}.get(part[0], part[0])
     return f"{kind} {part[1]}"
 
 
@@ -81,6 +83,27 @@ def open_ends(evidence):
 def of_message(evidence, code, name, text):
     who = f"message {name}"
     return Finding(evidence.origins.place("message", name), f"{code} {name}", who, who, text)
+
+
+def short_times(evidence):
+    """The receives whose time is over before the next frame has to come."""
+    found = []
+    for name, planned in evidence.plan.messages.items():
+        for node in sorted(set(planned.consumers) & set(planned.message.receives)) if not planned.faults else ():
+            time, (period, comes) = planned.milliseconds(node), longest_pause(planned.message, evidence.project.manager[1])
+            if time and (period is None or period >= 1000 * time):
+                text = f"{evidence.node_name(node)} expects it within {time} ms, and it comes {comes}"
+                found.append(Finding(evidence.origins.place("receive", name, node), f"{RECEIVE_TIME} {name} {node}", f"message {name}",
+                                     f"message {name}", text))
+    return found
+
+
+def longest_pause(message, sync):
+    """The longest time in microseconds between two frames of a message, None for no bound, and in words how they come."""
+    kind, _, event, _ = message.numbers
+    if kind <= LAST_SYNCED and (kind or not sync):      # without SYNC it never comes, as W18 says
+        return kind * sync, f"each {milliseconds(kind * sync)}"
+    return (1000 * event, f"each {event} ms at the latest") if kind > LAST_SYNCED and event else (None, "when a value changes alone")
 
 
 def late_events(evidence):

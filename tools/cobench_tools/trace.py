@@ -5,7 +5,7 @@ import io
 import re
 from typing import TYPE_CHECKING, Iterable, List, Optional, Sequence, Tuple, Union
 
-from . import replies, tool
+from . import replies, tool, wire_bits
 from .logs.rows import EXTENDED, GREATEST
 
 if TYPE_CHECKING:
@@ -15,10 +15,9 @@ TIME = re.compile(rb"[0-9]{10} ")
 FRAME = re.compile(rb"([0-7][0-9A-F]{2}) \[([0-8])\]((?: [0-9A-F]{2})*)")
 NOTE = re.compile(rb"([0-9]{10}) note ([0-9]{1,3}) (configured|lost|failed (?:[0-9A-F]{8}|timeout|difference))")
 
-# Microseconds a bit, by the bit rates that there are; the bits of a frame without its bytes.
+# Microseconds a bit, by the bit rates that there are.
 BIT_TIMES = (1, 2, 4, 8, 20, 50, 100)
 BIT_RATES = [1000 // each for each in BIT_TIMES]
-FRAME_BITS = 47
 
 # The second of power-on in a log: readers as log2asc take second 0 for a log that has not begun.
 LOG_START = 1
@@ -32,8 +31,8 @@ class Frame:
 
     @property
     def bits(self) -> int:
-        """For how many bits it has the bus."""
-        return FRAME_BITS + 8 * len(self.data)
+        """For how many bits it has the bus, without stuff bits: as runs of versions 1 and 2 count."""
+        return wire_bits.plain_bits(len(self.data))
 
     @property
     def shown(self) -> str:
@@ -48,6 +47,14 @@ class Frame:
     def line(self) -> str:
         data = "".join(f" {byte:02X}" for byte in self.data)
         return f"{self.time:010} {self.identifier:03X} [{len(self.data)}]{data}"
+
+
+class StuffedFrame(Frame):
+    """A frame with its stuff bits, as runs of version 3 count."""
+
+    @property
+    def bits(self) -> int:
+        return wire_bits.exact_bits(self.identifier, self.data)
 
 
 class Foreign:
@@ -112,21 +119,50 @@ def trace_of(lines: Iterable[bytes]) -> Optional[List[Line]]:
     return found
 
 
-def of_answer(lines: Iterable[bytes]) -> List[Line]:
-    """The trace that cobench answered."""
+def of_answer(lines: Iterable[bytes], project: "Optional[Project]" = None) -> List[Line]:
+    """The trace that cobench answered of a project."""
     found = trace_of(lines)
     if found is None:
         raise tool.Fault("cobench's answer to trace has a line that is none of a trace")
-    return found
+    return counted(found, project)
+
+
+def has_stuff_bits(project: "Optional[Project]") -> bool:
+    """Whether the frames of a project's run have their stuff bits."""
+    return project is not None and project.version >= 3
+
+
+def counted(lines: List[Line], project: "Optional[Project]") -> List[Line]:
+    """These lines, with frames whose bits are counted as in the runs of a project."""
+    return stuffed(lines) if has_stuff_bits(project) else lines
+
+
+def is_stuffed(lines: Iterable[Line]) -> bool:
+    """Whether the frames of these lines have their stuff bits."""
+    return any(isinstance(line, StuffedFrame) for line in lines)
+
+
+def stuffed(lines: List[Line]) -> List[Line]:
+    """These lines, with frames that have their stuff bits."""
+    return [StuffedFrame(line.time, line.identifier, line.data) if isinstance(line, Frame) else line for line in lines]
 
 
 def bit_time(lines: Sequence[Line], project: "Optional[Project]") -> int:
     """Microseconds a bit: by the bit rate, or by the first frame, which starts at 0."""
-    if project:
-        return 1000 // project.bitrate
+    return 1000 // project.bitrate if project else guessed_bit_time(lines) or 1
+
+
+def guessed_bit_time(lines: Sequence[Line]) -> Optional[int]:
+    """The same by the first frame of a trace, None where that doesn't tell it."""
     first = next((line for line in lines if isinstance(line, Frame)), None)
     time = first.time / first.bits if first else 1
-    return int(time) if time in BIT_TIMES else 1
+    return int(time) if time in BIT_TIMES else None
+
+
+def as_counted(lines: List[Line]) -> List[Line]:
+    """The lines of a trace of which no project is known: its first frame tells whether their stuff bits are counted."""
+    with_them = stuffed(lines)
+    return with_them if not guessed_bit_time(lines) and guessed_bit_time(with_them) else lines
 
 
 def frames_of(lines: Iterable[Line]) -> List[Tuple[int, int, bytes]]:

@@ -2,12 +2,15 @@
 from . import matrix, values
 from .device import object_name
 from .responses import LONGEST_BUSY
+from .trace import has_stuff_bits
+from .wire_bits import exact_bits
 from .wiring import TPDO
 
 SYNC, EMCY, SDO, HEARTBEAT = 0x080, 0x080, 0x580, 0x700
 EVENT_TYPES = 254, 255
 LONGEST = 8     # bytes
 UNSIGNED16 = 0x06
+STATES = b"\x04", b"\x05", b"\x7f"     # of a node, in its heartbeat
 
 # Bits of a frame without its bytes: fields and intermission; and those that, with its bytes, can have stuff bits. The
 # second ones are those of a frame whose identifier has 29 bits.
@@ -40,15 +43,32 @@ class Traffic:
     is_extended  whether their identifier has 29 bits
     is_once      whether one comes, and no other for as long as anybody waits: an emergency, an SDO frame
     is_foreign   whether they are none of the network's
+    known        all bytes that they can have, where these are known: of version 3
     """
 
     is_extended = is_once = is_foreign = False
-    jitter = 0
+    jitter, known = 0, ()
 
     def __init__(self, identifier, part, name, sender, size, period, comes):
         self.identifier, self.part, self.name, self.sender = identifier, part, name, sender
         self.size, self.period, self.comes = size, period, comes
         self.syncs, self.tpdo, self.is_assumed = 0, None, False
+
+    @property
+    def plain_bits(self):
+        """The bits of a frame without stuff bits."""
+        return plain_bits(self.size, self.is_extended)
+
+    @property
+    def most_bits(self):
+        """The bits of a frame with the most stuff bits that it can have."""
+        most = most_bits(self.size, self.is_extended)
+        return max((exact_bits(self.identifier, data) for data in self.known), default=most)
+
+    @property
+    def least_bits(self):
+        """The bits of the shortest frame."""
+        return min((exact_bits(self.identifier, data) for data in self.known), default=self.plain_bits)
 
     @property
     def priority(self):
@@ -73,11 +93,20 @@ def traffic_of(network, assumed=None, foreign=()):
     """All frames by priority; `assumed` are the microseconds for those without a bound, `foreign` those of others."""
     found = [sync(network)] + heartbeats(network) + [pdo(network, tpdo) for tpdo in network.tpdos]
     found = [each for each in found if each]
+    for each in found if has_stuff_bits(network.project) else ():
+        each.known = known_bytes(network, each)
     for each in found:
         if each.period is None and assumed:
             each.period, each.is_assumed = assumed, True
     found += emergencies(network) + sdo(network) + list(foreign)
     return sorted(found, key=lambda each: (each.priority, each.sender or 0))
+
+
+def known_bytes(network, each):
+    """All bytes that SYNC and heartbeats can have, none of other frames."""
+    if each.tpdo:
+        return []
+    return STATES if each.identifier != SYNC else [bytes([count]) for count in range(1, network.project.sync_counter + 1)] or [b""]
 
 
 def emergencies(network):

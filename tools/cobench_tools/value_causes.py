@@ -8,6 +8,7 @@ from .safe_text import shortened
 from .wiring import COMMUNICATION, EXTENDED, MOST_PDOS, OFF, TPDO
 
 U8, U16, U32 = 0x05, 0x06, 0x07
+EXPLAINED = "E01", "E02", "E03", "E04", "E15", "E16", "W19", "W20", "W21"
 
 
 def why_no_value(kind, text, node):
@@ -42,6 +43,8 @@ class ValueCauses:
     def of(self, code, words):
         """FILE:LINE of a diagnostic, who it is about, and the cause, by the words of its subject."""
         what, *rest = words
+        if code not in EXPLAINED:
+            return self.unexplained(what, int(rest[0]))
         if what == "event":
             return self.event(code, int(rest[0]))
         if what == "cob":
@@ -52,6 +55,11 @@ class ValueCauses:
             return self.consumer(int(rest[0]), hexadecimal(rest[1])) if code == "W19" else self.counter(int(rest[0]))
         node, key = int(rest[0]), (hexadecimal(rest[1]), hexadecimal(rest[2]))
         return self.default(node, key) if what == "default" else self.param(code, node, key)
+
+    def unexplained(self, what, number):
+        """What a newer cobench may say of an event or a node."""
+        who = self.evidence.node_name(number) if what == "node" else f"{what} {number}"
+        return self.origins.place(what, number), who, "cobench says so"
 
     # Values of parameters, events and defaults.
 

@@ -70,7 +70,7 @@ def of(script_path: Optional[str], path: Optional[str], options: argparse.Namesp
     if script_path or is_script(given):
         return simulated(given, options)
     traces = trace.traces_of(given, replies.read_text(given))
-    return Shown(trace.pick(given, traces, options.trace), None)
+    return Shown(trace.as_counted(trace.pick(given, traces, options.trace)), None)
 
 
 def is_script(path: str) -> bool:
@@ -87,7 +87,7 @@ def is_script(path: str) -> bool:
 def simulated(path: str, options: argparse.Namespace) -> Shown:
     """The trace that cobench makes of a script."""
     answered = session.run(path, options.cobench, Evidence.QUERIES, choice.Part(options.trace, 0))
-    lines = trace.of_answer(answered.lines("trace"))
+    lines = trace.of_answer(answered.lines("trace"), answered.project)
     if not lines:
         raise tool.Fault(f"{tool.name_of(path)}: its trace has no lines")
     return Shown(lines, answered.project, report_of(answered, options))
@@ -102,7 +102,7 @@ def recorded(path: Optional[str], options: argparse.Namespace) -> Shown:
     plan = recording.plan_of(argparse.Namespace(script=path, cobench=options.cobench, trace=options.trace), log)
     if options.bitrate:
         plan.bus_bit = 1000 // options.bitrate
-    return Shown(recording.lines_of(log), plan.project, report_of(plan.answered, options), plan)
+    return Shown(trace.counted(recording.lines_of(log), plan.project), plan.project, report_of(plan.answered, options), plan)
 
 
 def report_of(answered: session.Session, options: argparse.Namespace) -> Report:
@@ -127,13 +127,13 @@ def trace_and_project(script_path: str, replies_path: str, wanted: Optional[int]
     reader = Reader()
     commands, text = reader.commands(script_path), replies.read_text(replies_path)
     if not trace.is_session(text):
-        lines = trace.pick(replies_path, trace.traces_of(replies_path, text), wanted)
-        return lines, whole(commands)
+        project = whole(commands)
+        return trace.counted(trace.pick(replies_path, trace.traces_of(replies_path, text), wanted), project), project
     answered = replies.session_of(replies_path, text)
     if answered.cut:
         raise tool.Fault(f"{answered.cut}: the replies are cut")
     found, kept = traces(replies.pairs(script_path, commands, reader.raw or [], answered)[0], wanted or 1)
-    return trace.pick(replies_path, found, wanted), kept
+    return trace.counted(trace.pick(replies_path, found, wanted), kept), kept
 
 
 def traces(pairs: session.Pairs, wanted: int) -> Tuple[List[List[trace.Line]], Optional[Project]]:

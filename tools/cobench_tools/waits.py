@@ -104,7 +104,7 @@ class Waits:
 
     def _since(self, traffic, start):
         """Since when a frame that starts there has waited, at the least; None where that isn't known."""
-        if traffic.identifier == SYNC:
+        if traffic.identifier == SYNC and traffic.tpdo is None:
             return start // traffic.period * traffic.period
         if traffic.tpdo is None:
             return self.clocks[traffic.sender].last(start)

@@ -128,7 +128,8 @@ class ClockedBus(Received):
 
 @contextlib.contextmanager
 def used(bus):
-    """`cobtool bus` uses this bus, and goes by its clock."""
+    """`cobtool bus` uses this bus, and goes by its clock; what came before is gone, as it had nobody to take it."""
+    bus.arrived.clear()
     kept = bus.can.Bus, Connection.clock
     bus.can.Bus, Connection.clock = lambda **_: bus, bus.clock
     try:

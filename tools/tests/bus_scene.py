@@ -49,16 +49,22 @@ class Rack(threading.Thread, Received):
         self.bus = self.can.Bus(interface=interface, channel=channel)
 
     def run(self):
-        message = None
-        while not self.is_over or message is not None:
-            message = self.bus.recv(POLL)
-            self.others(time.monotonic())
-            if message is not None:
-                self.frames.append((message.arbitration_id, bytes(message.data)))
-                for device in self.devices:
-                    self.put(device.take(message.arbitration_id, bytes(message.data)))
+        while not self.is_over:
+            self.turn(POLL)
+        while self.turn(0):
+            pass
+
+    def turn(self, seconds):
+        """Takes a message, if one comes within so many seconds; whether one did."""
+        message = self.bus.recv(seconds)
+        self.others(time.monotonic())
+        if message is not None:
+            self.frames.append((message.arbitration_id, bytes(message.data)))
             for device in self.devices:
-                self.put(device.heartbeat(time.monotonic_ns() // 1000))
+                self.put(device.take(message.arbitration_id, bytes(message.data)))
+        for device in self.devices:
+            self.put(device.heartbeat(time.monotonic_ns() // 1000))
+        return message is not None
 
     def others(self, now):
         """Others send their frames again and again."""

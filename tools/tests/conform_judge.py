@@ -4,6 +4,7 @@
 --networks N  the own runs of N networks, as they are, by a clock that is off, and cut: none may be told of
 --faults N    N logs of each kind of fault: it has to be told at its line, and nothing else
 --simulated N the machines of N networks as the simulation runs them with a fault, or with boots of another order and length
+--version V   takes the networks as scripts of that version
 """
 import argparse
 import os
@@ -34,6 +35,18 @@ ROUNDS, MOST_SHOWN = 4, 60
 
 
 def script_of(number):
+    """The script of a network, in the version that is asked for."""
+    script = own_script_of(number)
+    version = os.environ.get("COBTOOL_VERSION")
+    return in_version(script, version) if version else script
+
+
+def in_version(script, version):
+    """A script as one of another version."""
+    return b"version %s\n" % version.encode() + re.sub(rb"(?m)^version .*\n", b"", script)
+
+
+def own_script_of(number):
     """The script of a network: of five two have a fuller bus, and one of these has event times."""
     if number % 5 < 3:
         return networks.network(number // 5 * 3 + number % 5)
@@ -117,7 +130,9 @@ def main():
     parser.add_argument("--simulated", type=int, default=0)
     parser.add_argument("--of", type=int, default=100, help="plant them in so many networks, 100 without it")
     parser.add_argument("--kind", choices=list(log_faults.KINDS), action="append")
+    parser.add_argument("--version", choices=("1", "2", "3"), help="of the scripts")
     options = parser.parse_args()
+    os.environ["COBTOOL_VERSION"] = options.version or ""
     import simulated_judge
     program, wrong = real(), []
     with tempfile.TemporaryDirectory() as folder:

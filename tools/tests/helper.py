@@ -2,6 +2,7 @@
 import concurrent.futures
 import os
 import re
+import shlex
 import subprocess
 import sys
 import tempfile
@@ -114,6 +115,11 @@ def real():
         return os.environ.get("COBTOOL_COMPARE") or " ".join(session_module.program(None))
     except Fault as fault:
         raise Skipped(fault) from None
+
+
+def real_once():
+    """The words of that cobench, which is asked once for each input in the folder of this test."""
+    return f"{sys.executable} -S -E {kept_at('stand_in')} --once {shlex.quote(real())}"
 
 
 def in_parallel(work, numbers):

@@ -1,6 +1,8 @@
 """`bus scan`, `read` and `write`: over a bus of python-can with simulated devices, and what is refused before a frame is sent."""
+import contextlib
 import os
 import pty
+import re
 import struct
 import subprocess
 import sys
@@ -9,10 +11,10 @@ import time
 import bus_clock
 import bus_device
 import bus_running
-from bus_scene import Rack, here, on_bus, python_can
+from bus_scene import Output, Rack, here, on_bus, python_can
 from helper import COBTOOL, Skipped, is_refused, put, recorded
 
-from cobench_tools.bus import connection, frame_log, value
+from cobench_tools.bus import connection, frame_log, progress, value
 
 QUICK, SHORT = ("--timeout", "3000"), ("--timeout", "300")
 UNHEARD = "--listen", "0", *QUICK
@@ -88,6 +90,38 @@ def test_blocks_are_asked_for_where_the_device_does_them():
     made = device(does_blocks=False)
     assert written(made, 0x2006, text, "--block")[0] == 0 and made.entries[0x2006, 0].data.hex().upper() == text
     assert read(made, 0x2006, "--block")[1].startswith("node 5: 2006h:00 Entry 2006 = 00 01 02 ")
+
+
+@contextlib.contextmanager
+def on_a_terminal():
+    """The standard error is one, and progress is shown at once."""
+    kept = progress.FIRST, progress.EACH
+    progress.FIRST = progress.EACH = 0
+    Output.isatty = lambda self: True
+    try:
+        yield
+    finally:
+        progress.FIRST, progress.EACH = kept
+        del Output.isatty
+
+
+def test_how_much_of_a_long_value_is_there_is_shown_on_a_terminal():
+    """Of 40 bytes there are seven in a segment; the device takes five segments in a block, and gives all in one."""
+    text, made = "00" * 40, device()
+    with on_a_terminal():
+        assert shown(written(made, 0x2006, text)) == [f"{place} of 40 bytes" for place in (7, 14, 21, 28, 35, 40)]
+        assert shown(read(made, 0x2006)) == [f"{place} bytes" for place in (7, 14, 21, 28, 35, 40)]
+        assert shown(written(made, 0x2006, text, "--block")) == ["35 of 40 bytes", "40 of 40 bytes"]
+        assert shown(read(made, 0x2006, "--block")) == ["42 bytes"], "how much of the last segment counts is told behind it"
+        assert written(made, 0x2001, "1")[2] == ""
+
+
+def shown(done):
+    """What stood in the line on how much is done, one after the other; at the end nothing stands there."""
+    status, _, faults, _ = done
+    *lines, last = re.findall(r"\r(.*?)\x1b\[K", faults)
+    assert (status, last) == (0, "") and faults.endswith("\r\x1b[K"), faults
+    return lines
 
 
 def test_what_a_device_refuses_or_does_wrong_is_told():

@@ -4,7 +4,7 @@ import os
 import re
 from xml.etree import ElementTree
 
-from helper import example, file, is_refused, kept, put, recorded, run
+from helper import example, file, is_refused, kept, put, recorded, recorded_replies, run, stand_in
 
 
 def check(*words, given=b""):
@@ -38,6 +38,47 @@ def test_check_tells_each_diagnostic_that_diag_has():
     codes = {line.split()[0] for line in diagnostics}
     assert codes == {f"E{number:02}" for number in range(1, 17)} - {"E13"} | {f"W{number}" for number in range(17, 23)}
     assert diagnostics == sorted(diagnostics, key=lambda line: int(line[1:3])) and len(diagnostics) == 51
+
+
+def vendors():
+    """A script of version 3 with each diagnostic of PDOs as vendors make them, and its data sheet, in the folder of this test."""
+    put("vendor.eds", kept("check/vendor.eds"))
+    return put("vendors.txt", kept("check/vendors.txt"))
+
+
+def test_check_tells_the_cause_of_each_diagnostic_of_version_3():
+    status, lines, faults = check("--allow", "no-sink", vendors())
+    assert status == 1 and not faults
+    assert lines == kept("check/vendors.checked.txt").decode().splitlines(), "\n".join(lines)
+    codes = {line[-4:-1] for line in lines}
+    assert {"E05", "E10", "E12", "E13", "E15", "W23", "W24", "E26", "W28"} <= codes
+
+
+def test_check_tells_of_receives_that_are_sooner_than_their_message():
+    """At each second SYNC of 10 ms; at changes, at the latest after 100 ms or never; and one of type 0."""
+    put("vendor.eds", kept("check/vendor.eds"))
+    for kind, event, time, said in ((2, 0, 20, "each 20.000 ms"), (2, 0, 21, None), (255, 100, 100, "each 100 ms at the latest"), (255, 100, 101, None),
+                                    (255, 0, 60000, "when a value changes alone"), (0, 0, 500, "when a value changes alone"), (255, 0, 0, None)):
+        put("net.txt", (f"version 3\nmanager 127 10000 0 500\neds encoder <vendor.eds\nnode 5 a encoder\nnode 6 b encoder\nhorizon 0\n"
+                        f"message m 5 2 {kind} 0 {event} 0\nsource m 1 6041 0\nsink m 1 6 6040 0\nreceive m 6 3 {time}\n").encode())
+        lines = [line for line in check("--allow", "E26", "net.txt")[1] if "[receive-time]" in line]
+        expected = f"net.txt:10: warning: message m: node 6 b expects it within {time} ms, and it comes {said} [receive-time]"
+        assert lines == ([expected] if said else []), (kind, event, time, lines)
+
+
+def test_check_passes_on_a_diagnostic_that_it_does_not_know():
+    text = run("expand", drives("node 5 pump drive", "event 1 1000 set 5 1017 0 0"))[1] + b"diag\ntrace\ncdcf 5\n"
+    replies = recorded_replies(text)
+    newer = stand_in(text, replies.replace(b"lines 0\n", b"lines 2\nW25 event 1\nW27 node 5\n", 1))
+    output = run("check", "--cobench", newer, "net.txt")[1].decode()
+    assert "net.txt:10: warning: event 1: cobench says so [W25]\n" in output and "net.txt:9: warning: node 5 pump: cobench says so [W27]\n" in output, output
+
+
+def test_check_accepts_diagnostics_of_version_3():
+    words = "W23", "W24 rpdo 7 4", "E26 limit 6 1801 05", "W28 receive a_position 7"
+    lines = check(*(each for word in words for each in ("--allow", word)), vendors())[1]
+    assert not [line for line in lines if "W23" in line or "W24" in line] and sum("[E26]" in line for line in lines) == 3
+    assert sum("[W28]" in line for line in lines) == 1, lines
 
 
 def test_check_tells_that_all_is_well():

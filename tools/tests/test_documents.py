@@ -19,7 +19,7 @@ PAGES = [os.path.join(folder, name) for folder in FOLDERS for name in os.listdir
 
 def test_the_stored_sessions_have_the_examples_with_the_kept_replies():
     for name, title in (("first_network", b"a network of one node with a heartbeat"), ("io_modules", b"two I/O modules and their"),
-                        ("servo_axes", b"two servo drives and their")):
+                        ("servo_axes", b"two servo drives and their"), ("turntable", b"a turntable of version 3")):
         is_fine(run("expand", example(name + ".txt")), session(title))
         answers = re.sub(rb"(?m)^> .*\n", b"", session(title, "stdout"))
         assert answers == file(EXAMPLES, name + ".replies.txt"), name
@@ -195,6 +195,26 @@ def test_the_totals_of_planted_bodies_are_those_of_the_table():
     assert f"Of {made:,} bodies that `rt plant` made, {refused:,} are refused, {right} answer the same by their contract" in text
     assert f"and {passed} pass" in text
     assert f"The other {limit + broken} say nothing: {limit} met a limit of the search, and {broken} don't compile." in text
+
+
+def sources(crate):
+    """The sources and the definitions of a crate."""
+    folders = [os.path.join(ROOT, "crates", crate, name) for name in ("src", "specs")]
+    return "\n".join(page(folder, name) for folder in folders if os.path.isdir(folder) for name in sorted(os.listdir(folder))
+                     if name.endswith((".rt", ".antt")))
+
+
+def test_what_is_proved_is_one_statement_a_line_with_contracts_of_its_crate():
+    rows = [line.strip("|").split("|") for line in page("docs", "proved.md").partition("\n## ")[0].splitlines() if line.startswith("| ")][1:]
+    assert len(rows) > 400 and all(len(row) == 3 and len(row[1].split()) <= 60 for row in rows), max(rows, key=lambda row: len(row[1].split()))
+    crate, texts = "", {}
+    for owner, _, contracts in rows:
+        crate = owner.strip(" `") or crate
+        text = texts.setdefault(crate, sources(crate))
+        for name in re.findall(r"\w+", "".join(re.findall(r"`[^`]+`", contracts))):
+            assert re.search(rf"\b{name}\b", text), (crate, name)
+    crates = {name for name in os.listdir(os.path.join(ROOT, "crates")) if not name.startswith(("checks_", "bench_"))} - {"cobench"}
+    assert not crates - set(texts), crates - set(texts)
 
 
 def test_the_drawing_of_the_crates_is_that_of_their_sources():

@@ -53,6 +53,12 @@ def test_import_gives_generated_networks_again():
         assert round_trip(recorded(), networks.network(seed)) is None, seed
 
 
+def test_import_gives_networks_of_version_3_again():
+    for seed in (4, 10, 13):
+        text = b"version 3\n" + re.sub(rb"(?m)^version .*\n", b"", networks.network(seed))
+        assert round_trip(recorded(), text) is None, seed
+
+
 def generated_round_trip(seed):
     return round_trip(real(), networks.network(seed))
 
@@ -61,6 +67,22 @@ def all_import_gives_200_networks_again():
     real()
     wrong = {seed: why for seed, why in enumerate(in_parallel(generated_round_trip, list(range(200)))) if why}
     assert not wrong, wrong
+
+
+def test_import_of_pdos_that_a_sheet_has_on():
+    """In version 3 what no message uses is off: a TPDO that is on by the sheet becomes a message, an RPDO that nobody serves is noted."""
+    sheet = ("[1400sub1]\nDataType=7\nDefaultValue=0x207\n[1400sub2]\nDataType=5\nDefaultValue=255\n[1600sub0]\nDataType=5\n"
+             "DefaultValue=1\n[1600sub1]\nDataType=7\nDefaultValue=0x20010008\n[1800sub1]\nDataType=7\nDefaultValue=0x185\n"
+             "[1800sub2]\nDataType=5\nDefaultValue=255\n[1A00sub0]\nDataType=5\nDefaultValue=1\n[1A00sub1]\nDataType=7\n"
+             "DefaultValue=0x20000008\n[1801sub1]\nDataType=7\nDefaultValue=0x285\nParameterValue=0x80000285\n[1801sub2]\nDataType=5\n"
+             "[1A01sub0]\nDataType=5\nDefaultValue=1\n[1A01sub1]\nDataType=7\nDefaultValue=0x20000008\n[2000]\nDataType=5\nPDOMapping=1\n"
+             "[2001]\nDataType=5\nPDOMapping=1\nAccessType=rww\n[DeviceComissioning]\nNodeID=5\nNodeName=io\n")
+    status, made, faults = run("import", put("io.dcf", sheet.encode()))
+    assert status == 0 and b"\nversion 3\n" in made and b"\nmessage io_1 5 1 255 0 0 185\nsource io_1 1 2000 0\n" in made, made
+    assert faults == "io.dcf:3: note: on by the data sheet, and off by the script, as no message uses it: RPDO 1\n", faults
+    put("io.dcf", sheet.replace("ParameterValue=0x80000285\n", "").encode())
+    status, made, faults = run("import", "io.dcf")
+    assert (status, faults) == (0, "") and b"version" not in made, "nothing is lost by version 1, where the PDOs stay as they are"
 
 
 def test_import_of_a_machine():
@@ -148,11 +170,18 @@ def plc_305():
                b"[2000]\nDataType=6\nPDOMapping=1\n[DeviceComissioning]\nNodeID=10\nNodeName=plc\n")
 
 
-def test_import_says_what_comes_of_an_rpdo_that_stays_on():
-    """The file has RPDO 2 at SYNC; the script gives the message RPDO 1, and RPDO 2 stays on by its default, at once."""
-    faults = run("import", plc_305(), axis(("", "ParameterValue=0x305\n", "ParameterValue=1\n")))[2].splitlines()
-    assert "axis5.dcf:14: warning: axis5 takes 305h twice: by RPDO 1 at SYNC, by RPDO 2 at once" in faults, faults
-    put("made.txt", run("import", "plc.dcf", "axis5.dcf")[1])
+def test_import_names_the_rpdo_that_a_file_has():
+    """The file has RPDO 2 at SYNC, where version 2 would give the message RPDO 1, and RPDO 2 would stay on by its default."""
+    status, made, faults = run("import", plc_305(), axis(("", "ParameterValue=0x305\n", "ParameterValue=1\n")))
+    assert (status, faults) == (0, "") and b"\nversion 3\n" in made and b"\nreceive plc_1 5 2 0\n" in made, (made, faults)
+    put("made.txt", made)
+    assert b" axis5 (RPDO 2)\n" in run("matrix", "--table", "messages", "--cobench", recorded(), "made.txt")[1]
+    assert run("check", "--cobench", recorded(), "made.txt")[0] == 0
+
+
+def test_check_says_what_comes_of_an_rpdo_that_stays_on():
+    made = run("import", plc_305(), axis(("", "ParameterValue=0x305\n", "ParameterValue=1\n")))[1]
+    put("made.txt", re.sub(rb"(?m)^(version|receive) .*\n", b"", made))
     assert b"axis5 (RPDO 1), axis5 (RPDO 2)" in run("matrix", "--table", "messages", "--cobench", recorded(), "made.txt")[1]
     output = run("check", "--cobench", recorded(), "made.txt")[1].decode()
     assert ": warning: node 5 axis5: it takes 305h twice: by RPDO 1 at SYNC, by RPDO 2 at once [taken-twice]\n" in output, output

@@ -11,11 +11,11 @@ NODES, SHEETS, NAMES, MESSAGES = range(1, 8), ["d", "e", "f", "g"], ["a", "b", "
 
 def random_project(chance):
     """The lines that `project` prints of a random project in which much is named alike."""
-    version, counter = chance.choice([1, 2]), chance.choice([0, 0, 4, 240])
+    version, counter = chance.choice([1, 2, 3]), chance.choice([0, 0, 4, 240])
     nodes = dict(zip(chance.sample(NODES, chance.randint(0, 4)), chance.sample(NAMES, 5)))
     manager = chance.choice([each for each in [*NODES, 127] if each not in nodes])
     sheets = chance.sample(SHEETS, chance.randint(1, 4))
-    lines = ["version 2"] if version == 2 else []
+    lines = [f"version {version}"] if version > 1 else []
     lines += [f"bitrate {chance.choice([250, 1000])}", f"horizon {chance.choice([1000, 20000])}", f"manager {manager} {chance.choice([0, 1000])} 0 500"]
     lines += [f"sync-counter {counter}"] if counter else []
     for sheet in sorted(sheets):
@@ -23,10 +23,12 @@ def random_project(chance):
         lines += [f"eds {sheet} {len(block)}", *block]
     for node, name in sorted(nodes.items()):
         lines += [f"node {node} {name} {chance.choice(sheets)}"]
-        lines += [f"need {node} mandatory"] if version == 2 and chance.random() < .4 else []
+        lines += [f"need {node} mandatory"] if version > 1 and chance.random() < .4 else []
     lines += [f"param {node} {index} 00 {chance.randint(0, 3)}" for node in sorted(nodes) for index in ("1017", "2000") if chance.random() < .5]
     for name in sorted(chance.sample(MESSAGES, chance.randint(0, 3) if nodes else 0)):
         lines += random_message(chance, name, sorted(nodes))
+        lines += [f"receive {name} {node} {chance.randint(0, 2)} {chance.choice([0, 20])}" for node in sorted(nodes)
+                  if version > 2 and chance.random() < .4]
     return lines + random_events(chance, sorted(nodes))
 
 

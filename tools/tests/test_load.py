@@ -165,6 +165,17 @@ def test_load_takes_heartbeats_that_an_event_sets():
     assert status == 0 and row["Comes"] == "each 200 ms" and row["Deadline [ms]"] == "200.000", row
 
 
+def test_a_pdo_on_the_identifier_of_sync_is_none():
+    """A data sheet has a TPDO on with 080h: it is sent at changes, and has no clock."""
+    lines = ["[1800sub1]", "DataType=7", "DefaultValue=0x40000080", "[1800sub2]", "DataType=5", "DefaultValue=255", "[1A00sub0]", "DataType=5",
+             "DefaultValue=1", "[1A00sub1]", "DataType=7", "DefaultValue=0x20000008", "[2000]", "DataType=5", "PDOMapping=1"]
+    put("net.txt", "\n".join([f"eds d {len(lines)}", *lines, "node 5 pump d", "horizon 50000", ""]).encode())
+    event = "event 1 40000 set 5 2000 0 7\n"
+    put("net.txt", file("net.txt") + event.encode())
+    rows = rows_of(run("load", "--format", "csv", "--table", "frames", "--cobench", recorded(), "net.txt")[1])
+    assert [(row["Frames"], row["Comes"]) for row in rows if row["COB-ID"] == "080h"] == [("TPDO 1 of pump", "whenever changed")], rows
+
+
 def test_load_for_programs():
     status, output, faults = load("--json")
     whole = json.loads(output)

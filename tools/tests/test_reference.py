@@ -10,6 +10,7 @@ REFERENCE = os.path.join(ROOT, "reference")
 sys.path.append(REFERENCE)
 
 from rules.session import replies_to
+from rules.versions import PROVED
 
 
 def compare(*words):
@@ -25,7 +26,7 @@ def program(*words, given=b""):
 
 
 def test_the_plain_program_answers_the_worked_rows():
-    status, output = compare("--rows", "--version", "3")
+    status, output = compare("--rows")
     rows = [name for folder in ("version_2", "version_3") for name in os.listdir(os.path.join(REFERENCE, "rows", folder))
             if name.endswith((".replies.txt", ".check.txt"))]
     assert status == 0 and output == b"%d equal, 0 different\n" % len(rows) and len(rows) > 190, output[-2000:]
@@ -35,11 +36,18 @@ def test_the_program_answers_from_its_input_and_from_a_file():
     put("script", b"event 1 0 nmt 1 0\nversion 3\nreceive m 5 1 1\nproject\n")
     replies = b"ok\nok\nrefused 4 Unknown\nlines 5\nversion 3\nbitrate 1000\nhorizon 1000000\nmanager 127 0 0 500\nevent 1 0 nmt 1 0\n"
     assert program("--script", "script") == (0, replies, b"") and program(given=file("script")) == (0, replies, b"")
-    older = replies.replace(b"ok\nok\nrefused 4 Unknown\nlines 5\nversion 3\n", b"ok\nrefused 3 Range\nrefused 2 Syntax\nlines 4\n")
-    assert program("--newest", "2", "--script", "script") == (0, older, b"")
     assert program("--script", "nosuch") == (1, b"", b"cobench: 2 Read\n")
     assert program("--work", given=b"trace\ntrace\n")[2] == b"work 101 1003\n"
     assert program("--work", "--capacity", "100", given=b"trace\ntrace\n")[2] == b"work 102 1003\n"
+
+
+def test_the_program_answers_as_the_proved_cobench_does():
+    """Without the types of version 3 and without a controller."""
+    put("script", b"version 3\neds a 2\n[2000]\nDataType=8\nnode 127 c a\nnode 5 n a\nparam 5 2000 0 1.5\ndiag\nhorizon 900\ntrace\n")
+    whole, proved = (program(*words, "--script", "script")[1].split(b"\n") for words in ([], ["--proved"]))
+    assert whole[2] == b"ok" and whole[5] == b"lines 0" and b"0000000180 605 [8] 23 00 20 00 00 00 C0 3F" in whole, whole
+    assert proved[2] == b"refused 5 Taken" and proved[5:7] == [b"lines 1", b"E16 param 5 2000 00"], proved
+    assert b"0000000128 000 [2] 01 05" in proved, proved
 
 
 def test_a_row_that_is_answered_otherwise_is_reported_and_kept():
@@ -51,10 +59,9 @@ def test_a_row_that_is_answered_otherwise_is_reported_and_kept():
 
 
 def test_the_plain_program_answers_the_stored_sessions():
-    """As a program that knows no version 3."""
     stored = sessions("stdout")
     for title, text in sessions("stdin").items():
-        assert b"".join(replies_to(text, newest=2)) == re.sub(rb"(?m)^> .*\n", b"", stored[title]), title
+        assert b"".join(replies_to(text, PROVED)) == re.sub(rb"(?m)^> .*\n", b"", stored[title]), title
 
 
 def test_cobench_answers_generated_scripts_as_the_plain_program_does():
@@ -62,8 +69,8 @@ def test_cobench_answers_generated_scripts_as_the_plain_program_does():
         words = real()
     except Skipped as why:
         raise Skipped(f"{why}; a cobench is needed to compare it with the plain program") from None
-    status, output = compare(words, "--work", "--seeds", "0:50")
-    assert status == 0 and output == b"200 equal, 0 different\n", output[-2000:]
+    status, output = compare(words, "--work", "--seeds", "0:30")
+    assert status == 0 and output == b"210 equal, 0 different\n", output[-2000:]
 
 
 def test_the_plain_program_has_a_module_for_each_page_of_the_rules():

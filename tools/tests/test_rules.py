@@ -2,24 +2,31 @@
 
 Each session asks cobench of many cases at once; the replies are kept, as those of the other tests.
 """
+import os
 import re
+import sys
 
-from helper import put, recorded
+from helper import ROOT, put, recorded
 from odd_scripts import odd_script
 
-from cobench_tools import concise, forms, ini, limits, script, tool, values
+from cobench_tools import concise, forms, ini, limits, pdo_values, script, tool, values
 from cobench_tools import session as sessions
 from cobench_tools.evidence import Evidence
+from cobench_tools.pdo_writes import writes_of
 from cobench_tools.project import Project
+
+sys.path.append(os.path.join(ROOT, "reference"))
+import generators  # noqa: E402
 
 # A right word of each kind, those at its limits and beyond, and words of other forms.
 WORDS = {
-    "VERSION": ("1", "2", "0", "3"), "RATE": ("500", "10", "0500", "9", "1000", "1001"), "US": ("0", "10000000", "10000001", "0000000005"),
+    "VERSION": ("1", "2", "3", "0", "4"), "RATE": ("500", "10", "0500", "9", "1000", "1001"), "US": ("0", "10000000", "10000001", "0000000005"),
     "ID": ("5", "1", "127", "128", "0"), "SYNC_US": ("0", "1000", "999", "1", "10000000", "10000001"), "HB_MS": ("0", "65535", "65536"),
     "TIMEOUT_MS": ("1", "0", "65535", "65536"), "COUNTER": ("0", "1", "2", "240", "241"), "NAME": ("d", "x" * 32, "x" * 33, "a-b"),
     "EDS": ("d", "none"), "MESSAGE": ("m", "none"), "NEED": ("mandatory", "optional", "Optional"), "TPDO": ("1", "512", "513", "0"),
     "TYPE": ("0", "255", "256"), "INHIBIT": ("0", "65535", "65536"), "EVENT": ("0", "65535", "65536"),
     "COB": ("0", "7FF", "800", "7ff", "0185", "FFF"), "START": ("0", "240", "241"), "POS": ("1", "64", "65", "0"),
+    "RPDO": ("0", "1", "512", "513"), "MS": ("0", "65535", "65536"),
     "INDEX": ("2000", "13FF", "1400", "1bff", "1C00", "0x17", "1017h", "12345"), "SUB": ("0", "FF", "100", "g"),
     "TEXT": ("1", "a b", "x" * 4000, "x" * 4001), "K": ("1", "10000", "10001", "0"), "TIME": ("0", "10000000", "10000001"),
     "CMD": ("1", "2", "128", "129", "130", "3", "0"), "TO": ("0", "5", "128"), "ON_OFF": ("on", "off", "ON"), "LINES": ("0", "65537"),
@@ -27,7 +34,7 @@ WORDS = {
 }
 ODD = ("-1", "+1", "1_0", "²", "0x5", "5h", "99999999999", "1e3", "#", "<x", ".")
 # What would take away what the others name, ask for much, or isn't for cobench: comments, and files that are taken in.
-LEFT_OUT = re.compile("(drop-(eds d|node 5|message m)|version [12]|diag|trace|project|c?dcf 5|eds d 0)|eds .* <.*|#.*")
+LEFT_OUT = re.compile("(drop-(eds d|node 5|message m)|version [123]|diag|trace|project|c?dcf 5|eds d 0)|eds .* <.*|#.*")
 SHEET = b"eds d 4\n[1017]\nDataType=6\n[2000]\nDataType=7\n"
 
 
@@ -53,6 +60,13 @@ def text_of_all_forms():
     return made + "".join(f"{line}\n" for line in lines if not LEFT_OUT.fullmatch(line)).encode()
 
 
+def text_of_version_3():
+    """The same in version 3, of the commands that are other there."""
+    text = text_of_all_forms()
+    lines = re.findall(rb"(?m)^(?:need|message|drop-message|receive|unreceive|param) .*\n", text)
+    return b"version 3\n" + SHEET + b"node 5 pump d\nmessage m 5 1 1 0 0 0\nreceive m 5 0 0\n" + b"".join(lines)
+
+
 def answered(text):
     """The commands of a script, each with cobench's reply."""
     put("net.txt", text)
@@ -61,7 +75,7 @@ def answered(text):
 
 def test_the_forms_are_those_of_cobench():
     """forms.py: a command is refused with 2 Syntax where bad_syntax says why, and there alone."""
-    pairs = answered(text_of_all_forms())
+    pairs = answered(text_of_all_forms()) + answered(text_of_version_3())
     assert len(pairs) > 500
     wrong = [(tool.shown(command.line)[:80], reply.refused, forms.bad_syntax(command)) for command, reply in pairs
              if (reply.refused == "2 Syntax") != (forms.bad_syntax(command) is not None)]
@@ -71,15 +85,16 @@ def test_the_forms_are_those_of_cobench():
 
 def test_the_limits_are_those_of_cobench():
     """limits.py: a command of the right form is refused with 3 Range where out_of_range says why, and there alone."""
-    pairs, project, wrong, count = answered(text_of_all_forms()), Project(), [], 0
-    for command, reply in pairs:
-        if reply.refused != "2 Syntax":
-            why = limits.out_of_range(command, project)
-            wrong += [(tool.shown(command.line), reply.refused, why)] if (reply.refused == "3 Range") != (why is not None) else []
-            count += why is not None
-        if reply.is_accepted():
-            project.take(command)
-    assert not wrong and count > 30, (count, wrong[:5])
+    for text in (text_of_all_forms(), text_of_version_3()):
+        pairs, project, wrong, count = answered(text), Project(), [], 0
+        for command, reply in pairs:
+            if reply.refused != "2 Syntax":
+                why = limits.out_of_range(command, project)
+                wrong += [(tool.shown(command.line), reply.refused, why)] if (reply.refused == "3 Range") != (why is not None) else []
+                count += why is not None
+            if reply.is_accepted():
+                project.take(command)
+        assert not wrong and count > 10, (count, wrong[:5])
 
 
 TEXTS = ("", "0", "1", "2", "-1", "-0", "127", "128", "255", "256", "0x7F", "0x80", "0xFF", "0x100", "017", "08", "-017", "0xffff", "65536", "-32768",
@@ -120,11 +135,37 @@ def test_lines_that_are_not_used_are_those_of_cobench():
     assert [tool.shown(line) for line in made.lines("diag")] == ours and len(ours) > 20, ours
 
 
+def edits_of(text):
+    """A script without its queries, and without what makes its run long."""
+    return b"\n".join(line for line in text.split(b"\n") if not re.match(b"(trace|c?dcf|project|diag|horizon)", line))
+
+
+def test_pdos_as_vendors_make_them_are_as_cobench_has_them():
+    """plan.py and vendor_pdo.py: `diag` has the faults that the plan finds, and `cdcf` the writes that it plans for PDOs, in
+    generated scripts of version 3."""
+    faults = writes = 0
+    for seed in range(16):
+        put("net.txt", edits_of(generators.script("vendors", seed)))
+        made = sessions.run("net.txt", recorded(), ("diag", "cdcf"))
+        plan = Evidence(made).plan
+        told = sorted(tool.shown(line) for line in made.lines("diag") if re.match(b"E.. message", line))
+        ours = sorted({f"{fault.code} message {name}" for name, each in plan.messages.items() for fault in each.faults})
+        assert ours == told, (seed, ours, told)
+        for node in made.project.nodes:
+            found = concise.writes_of(concise.bytes_of(made.lines("cdcf", node)))
+            written = [((index, sub), int.from_bytes(data, "little")) for index, sub, data in found if pdo_values.is_of_pdos(index)]
+            planned = [each for several in writes_of(plan, node).values() for each in several]
+            assert planned == written, (seed, node, planned, written)
+            writes += len(written)
+        faults += len(told)
+    assert faults > 10 and writes > 100, (faults, writes)
+
+
 def test_faults_of_messages_are_those_of_cobench():
     """plan.py: `diag` has the faults of messages that the plan finds, in generated networks of which a third is damaged."""
     count = 0
     for seed in range(1, 40, 3):
-        put("net.txt", b"\n".join(line for line in odd_script(seed).split(b"\n") if not re.match(b"(trace|c?dcf|project|diag|horizon)", line)))
+        put("net.txt", edits_of(odd_script(seed)))
         try:
             made = sessions.run("net.txt", recorded(), ("diag",))
         except tool.Fault as fault:

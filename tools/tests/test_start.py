@@ -1,7 +1,7 @@
 """`start`: a script of data sheets, which `check` passes."""
 import os
 
-from helper import EXAMPLES, example, file, is_fine, is_refused, put, recorded, run
+from helper import EXAMPLES, example, file, is_fine, is_refused, kept, put, recorded, run
 
 # A valve with a heartbeat and one TPDO that is on, of two entries, and a panel that can take the first of these.
 VALVE = b"""[DeviceInfo]
@@ -100,6 +100,19 @@ def test_what_is_begun_passes_check():
     for text in (begun, messages):
         status, output, faults = run("check", "--cobench", recorded(), "-", given=text)
         assert (status, faults) == (0, "") and b"no errors, no warnings; 5 of 5 nodes booted" in output, output
+
+
+def test_a_pdo_of_a_fixed_mapping_asks_for_version_3():
+    """The encoder's mapping is constant, the transmitter's identifier too: once their messages are wired, all is well."""
+    for name in ("plc", "abs_36", "pt_2", "dx2"):
+        put(f"{name}.eds", kept(f"machine/{name}.eds"))
+    assert b"\nversion 2\n" in run("start", "plc.eds", "dx2.eds")[1]
+    begun = run("start", "plc.eds", "abs_36.eds", "pt_2.eds")[1]
+    messages = begun.replace(b"# message", b"message").replace(b"# source", b"source").replace(b"# sink", b"sink")
+    assert b"\nversion 3\n" in begun and messages.count(b"\nmessage ") == 3 and messages.count(b"\nsink ") == 3, messages
+    for text, said in ((begun, "TPDO 1 is sent with 183h though no message uses it"), (messages, "no errors, no warnings; 3 of 3 nodes booted")):
+        status, output, faults = run("check", "--cobench", recorded(), "-", given=text + b"horizon 150000\n")
+        assert (status, faults) == (0, "") and said in output.decode(), (output, faults)
 
 
 def test_what_is_no_data_sheet_is_refused():

@@ -4,7 +4,7 @@ import random
 import re
 
 from browser import Browser
-from cobench_tools import device
+from cobench_tools import device, wire_bits
 from helper import example, put, run
 
 CTRL, SHIFT = 2, 8
@@ -48,6 +48,23 @@ def many_nodes(count=126):
         lines += [(100000 * beat + 50000 + 200 * node, f"{0x180 + node:03X} [2] {beat:02X} 00") for node in range(1, 40)]
     lines += [(1055000, "087 [8] 30 81 11 00 00 00 00 00"), (505000, "note 90 failed timeout")]
     return "".join(f"{time:010} {line}\n" for time, line in sorted(lines)).encode()
+
+
+def test_the_page_counts_stuff_bits():
+    """A run of version 3, whose first frame starts at 0: by its length the page knows it, and each frame has its own slot."""
+    chance = random.Random(3)
+    frames = [(chance.randrange(0x780), bytes(chance.choice((0, 255, chance.randrange(256))) for _ in range(chance.randrange(9))))
+              for _ in range(200)]
+    lines, time = [], 0
+    for identifier, data in frames:
+        time += 2 * wire_bits.exact_bits(identifier, data)
+        lines.append(f"{time:010} {identifier:03X} [{len(data)}]{''.join(f' {byte:02X}' for byte in data)}\n")
+    with opened(drawing("full.html", "-", given="".join(lines).encode())) as page:
+        assert page.value("[timeline.trace.bit, timeline.trace.isStuffed]") == [2, True]
+        slots = page.value("[...Array(timeline.trace.count).keys()].map(each => timeline.trace.slot(each))")
+        assert slots == [2 * wire_bits.exact_bits(*frame) for frame in frames], slots
+    with opened(servo()) as page:
+        assert page.value("timeline.trace.isStuffed") is False
 
 
 def network():

@@ -11,7 +11,8 @@ use Rattle.bus_devices.specs.Events.{after_events_at, after_event, after_power_a
 use Rattle.bus_devices.specs.Steps.{steps_due}
 use Rattle.image_parts.proofs.EachLemmas.{outcome_each}
 use Rattle.bus_devices.proofs.EventLemmas.{happens_nmt, happens_set, outcome_events, outcome_power}
-use Rattle.can_frame.specs.Frames.{slot_bits}
+use Rattle.can_frame.specs.Slots.{bits_of_slot}
+use Rattle.can_frame.proofs.FrameBitLemmas.{least_of_slot}
 use Rattle.can_frame.specs.declared.contender.Contender.{Contender}
 use Rattle.can_frame.specs.declared.waiting.Waiting.{Waiting}
 use Rattle.co_device.specs.Device as device
@@ -241,7 +242,7 @@ started_past t (Some c) s h =
       rest = devices_send Rests (λ d frames rests. record { unsynced = rests.unsynced; unwanted = rests.unwanted }) c
           place s.devices h.rest;
       manager = manager_sends (t + 1) c place s.manager h.manager;
-      slot = ends_later t (slot_bits frame) s.bit_time (omega arith) h.bit_time;
+      slot = ends_later t (bits_of_slot s.slots frame) s.bit_time (omega (arith, least_of_slot s.slots frame)) h.bit_time;
     }
 
 start_past : (t : ℕ) (wire : Option Slot) (s : Bus) → IsPast t s → IsPast t (after_start_on t wire s)
@@ -273,6 +274,7 @@ delivery_past image t s h =
     let quick : Bus = record {
       spent = s.spent;
       bit_time = s.bit_time;
+      slots = s.slots;
       devices = map (after_instant t) heard;
       manager = r.0;
       wire = open_slot t s.wire;

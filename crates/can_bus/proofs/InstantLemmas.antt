@@ -40,6 +40,7 @@ module _ (t : ℕ) (s : Bus) where
       → new ≡ after_arbitration t (record {
         spent = s.spent;
         bit_time = s.bit_time;
+        slots = s.slots;
         devices = after;
         manager = m;
         wire = wire;

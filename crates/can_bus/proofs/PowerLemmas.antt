@@ -54,7 +54,16 @@ module _ (roster : Roster) where
       → bit ≡ bit_time roster.bit_rate → before ≡ without_power roster.nodes
       → after ≡ outcome (each (after_power true 0) before) image → m ≡ manager_at_power_on roster
       → ◌≡◌ {A = Bus}
-      (record { spent = false; bit_time = bit; devices = after; manager = m; wire = None; window = 0; steps = [] })
+      (record {
+        spent = false;
+        bit_time = bit;
+        slots = roster.slots;
+        devices = after;
+        manager = m;
+        wire = None;
+        window = 0;
+        steps = [];
+      })
       (outcome (power_on_of roster) image)
   switched_on_is image bit before after m b f d e = rw (outcome_power_on_of, b, d, f, e)
 

@@ -73,6 +73,7 @@ delivery_settles image t s =
     rw outcome_delivery (slot_settles t (record {
       spent = s.spent;
       bit_time = s.bit_time;
+      slots = s.slots;
       devices = q.0;
       manager = q.1.0;
       wire = open_slot t s.wire;

@@ -73,7 +73,7 @@ wins ds m c e = rw e at (winner_of-wins (contenders (waiting_lists ds m)))
 
 by_device : (t : ℕ) (s : Bus) (c : Contender) (i : ℕ) → Some i ≡ sender_place c s.devices
     → winner s.devices s.manager ≡ Some c
-    → StartsWith t s (slot_of t s.bit_time c.node (winning_frame c (Some i) s.devices s.manager)) c
+    → StartsWith t s (slot_of t s.slots s.bit_time c.node (winning_frame c (Some i) s.devices s.manager)) c
     (waiting_at (device_at s.devices i).waiting c.place)
 unfolding sender_place
 by_device t s c i found e =
@@ -87,7 +87,7 @@ by_device t s c i found e =
     }
 
 by_manager : (t : ℕ) (s : Bus) (c : Contender) → None ≡ sender_place c s.devices → winner s.devices s.manager ≡ Some c
-    → StartsWith t s (slot_of t s.bit_time c.node (winning_frame c None s.devices s.manager)) c
+    → StartsWith t s (slot_of t s.slots s.bit_time c.node (winning_frame c None s.devices s.manager)) c
     (waiting_at s.manager.waiting c.place)
 unfolding sender_place winner
 by_manager t s c found e =
@@ -107,7 +107,7 @@ sent_waiting c (Some i) s = waiting_at (device_at s.devices i).waiting c.place
 
 by_either : (t : ℕ) (s : Bus) (c : Contender) (o : Option ℕ) → o ≡ sender_place c s.devices
     → winner s.devices s.manager ≡ Some c
-    → StartsWith t s (slot_of t s.bit_time c.node (winning_frame c o s.devices s.manager)) c (sent_waiting c o s)
+    → StartsWith t s (slot_of t s.slots s.bit_time c.node (winning_frame c o s.devices s.manager)) c (sent_waiting c o s)
 by_either t s c None found e = by_manager t s c found e
 by_either t s c (Some i) found e = by_device t s c i found e
 

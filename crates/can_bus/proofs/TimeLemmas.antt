@@ -46,6 +46,7 @@ delivery_keeps image t s =
     slot_keeps t (record {
       spent = s.spent;
       bit_time = s.bit_time;
+      slots = s.slots;
       devices = q.0;
       manager = q.1.0;
       wire = open_slot t s.wire;

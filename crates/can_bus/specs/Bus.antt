@@ -3,11 +3,14 @@
 use Rattle.std.specs.Prelude.{ℕ, ◌+◌, ◌*◌, ◌/◌, ◌==◌, Bool, false, true, List, [], ◌∷◌, ◌++◌, map, remove}
 use Rattle.std.specs.Prelude.{slice_index_or, Option, Some, None, if◌then◌else◌}
 use Rattle.image_parts.specs.Asking.{Asking, Answer, Ask, bind}
-use Rattle.can_frame.specs.Frames.{BaseFrame, bit_time, slot_bits}
+use Rattle.can_frame.specs.Frames.{BaseFrame, bit_time}
+use Rattle.can_frame.specs.Slots.{bits_of_slot}
 use Rattle.can_frame.specs.Winner.{contenders, winner_of}
 use Rattle.can_frame.specs.WaitingFrames.{waiting}
 use Rattle.can_frame.specs.declared.contender.Contender.{Contender}
 use Rattle.can_frame.specs.declared.purpose.Purpose.TheVariants.{Nmt}
+use Rattle.can_frame.specs.declared.slot_rule.SlotRule.{SlotRule}
+use Rattle.can_frame.specs.declared.slot_rule.SlotRule.TheVariants.{Unstuffed}
 use Rattle.can_frame.specs.declared.waiting.Waiting.{Waiting}
 use Rattle.image_parts.specs.Contents.{Content, roster_of, steps_of}
 use Rattle.image_parts.specs.declared.part.Part.{Part}
@@ -30,11 +33,12 @@ use Rattle.can_bus.specs.declared.line.Line.{Line}
 use Rattle.can_bus.specs.declared.line.Line.TheVariants.{Frame, Note}
 use Rattle.can_bus.specs.declared.slot.Slot.{Slot}
 
--- the time of one bit in microseconds, the devices by number, the manager, what is on the wire, the moment at which
--- the next window starts, and the events of this window that have not run
+-- the time of one bit in microseconds, the rule that counts the bits of a slot, the devices by number, the manager, what
+-- is on the wire, the moment at which the next window starts, and the events of this window that have not run
 pub record Bus : Type 0 where
   pub spent : Bool
   pub bit_time : ℕ
+  pub slots : SlotRule
   pub devices : List Device
   pub manager : Manager
   pub wire : Option Slot
@@ -48,6 +52,7 @@ abbrev pub blank_bus : Bus
 blank_bus = record {
   spent = false;
   bit_time = 1;
+  slots = Unstuffed;
   devices = [];
   manager = manager.blank;
   wire = None;
@@ -63,6 +68,7 @@ abbrev pub bus_with_power : Network → List Device → Bus
 bus_with_power roster devices = record {
   spent = false;
   bit_time = bit_time roster.bit_rate;
+  slots = roster.slots;
   devices = devices;
   manager = manager.manager_at_power_on roster;
   wire = None;
@@ -155,8 +161,8 @@ waiting_lists ds m = device_lists ds ++ (m.number, m.waiting) ∷ []
 abbrev pub waiting_frame_at : List Waiting → ℕ → BaseFrame
 waiting_frame_at frames place = (slice_index_or frames place (waiting Nmt (record { id = 0; bytes = [] }))).frame
 
-abbrev pub slot_of : ℕ → ℕ → ℕ → BaseFrame → Slot
-slot_of t bit sender frame = record { end = t + slot_bits frame * bit; sender = sender; frame = frame }
+abbrev pub slot_of : ℕ → SlotRule → ℕ → ℕ → BaseFrame → Slot
+slot_of t rule bit sender frame = record { end = t + bits_of_slot rule frame * bit; sender = sender; frame = frame }
 
 -- what is sent: the frame of a device, or else of the manager
 abbrev pub winning_frame : Contender → Option ℕ → List Device → Manager → BaseFrame
@@ -177,7 +183,8 @@ with_slot_of t None s = s
 with_slot_of t (Some c) s = record s {
   devices = devices_without_winner c (sender_place c s.devices) s.devices;
   manager = manager_without_winner c (sender_place c s.devices) s.manager;
-  wire = Some (slot_of t s.bit_time c.node (winning_frame c (sender_place c s.devices) s.devices s.manager));
+  wire = Some (slot_of t s.slots s.bit_time c.node
+      (winning_frame c (sender_place c s.devices) s.devices s.manager));
 }
 
 -- the frame that wins
@@ -209,6 +216,7 @@ after_nodes t s q = (
   after_arbitration t (record {
     spent = s.spent;
     bit_time = s.bit_time;
+    slots = s.slots;
     devices = q.0;
     manager = q.1.0;
     wire = open_slot t s.wire;

@@ -9,7 +9,7 @@ ghost use Rattle.can_bus.specs.Bus.{blank_bus, ended_slot, from_delivery_on, ins
 ghost use Rattle.can_bus.specs.Bus.{after_arbitration};
 ghost use Rattle.can_bus.specs.Dues.{next_due};
 ghost use Rattle.can_bus.specs.Telling.{TellsApart};
-ghost use Rattle.can_frame.specs.Frames.{slot_bits as bits_of};
+ghost use Rattle.can_frame.specs.Slots.{bits_of_slot as bits_of};
 ghost use Rattle.image_parts.specs.Contents.{first_roster as roster_of_first};
 
 use crate::arbitration::{send, winner};
@@ -23,7 +23,7 @@ use crate::telling::tell;
 use crate::windows::{begin_window, run_due};
 use base::Octets;
 use bus_devices::{Apart, Devices, new_devices, power_all};
-use can_frame::{Frame, bit_time, slot_bits};
+use can_frame::{Frame, SlotRule, bit_time, bits_of_slot};
 use co_dict::Dict;
 use image_parts::{END, Roster, StartMode};
 use nmt_boot::Manager;
@@ -41,6 +41,7 @@ pub struct BusState {
     pub(crate) alloc: Global,
     pub(crate) spent: bool,
     pub(crate) bit_time: u32,
+    pub(crate) slots: SlotRule,
     pub(crate) devices: Devices,
     pub(crate) manager: Manager,
     pub(crate) wire: Option<Slot>,
@@ -61,6 +62,7 @@ impl Model for BusState {
     ghost view = { λ bus. record {
       spent = bus.spent;
       bit_time = bus.bit_time;
+      slots = bus.slots;
       devices = bus.devices;
       manager = bus.manager;
       wire = bus.wire;
@@ -75,6 +77,7 @@ fn first_roster(alloc: Global) -> Roster
 {
     Roster {
         bit_rate: 1000,
+        slots: SlotRule::Unstuffed,
         manager: 127,
         sync_us: 0,
         sync_counter: 0,
@@ -104,6 +107,7 @@ fn power_on_of<P: Parts>(
         alloc,
         spent: false,
         bit_time: bit_time(roster.bit_rate),
+        slots: roster.slots,
         devices: Devices::of(alloc, devices),
         manager,
         wire: None,
@@ -138,11 +142,11 @@ fn same_wire(wire: &Option<Slot>, other: &Option<Slot>) -> bool
 }
 
 /// The end of a slot that starts at the moment t.
-fn slot_end(t: u64, bit_time: u32, frame: &Frame) -> u64
+fn slot_end(t: u64, rule: SlotRule, bit_time: u32, frame: &Frame) -> u64
     requires { t < END }
-    ensures { result ≡ t + bits_of frame.now * bit_time }
+    ensures { result ≡ t + bits_of rule frame.now * bit_time }
 {
-    t + u64::from(slot_bits(frame)) * u64::from(bit_time)
+    t + u64::from(bits_of_slot(rule, frame)) * u64::from(bit_time)
 }
 
 /// Starts the slot of the winner at the moment t, where the wire is idle and a frame waits.
@@ -158,7 +162,7 @@ fn start_slot(bus: &mut BusState, t: u64) -> Result<(), AllocError>
     if let Some(contender) = best {
         let frame = send(&contender, &mut bus.devices, &mut bus.manager)?;
         bus.wire = Some(Slot {
-            end: slot_end(t, bus.bit_time, &frame),
+            end: slot_end(t, bus.slots, bus.bit_time, &frame),
             sender: contender.node,
             frame,
         });
@@ -228,6 +232,7 @@ impl BusState {
             alloc,
             spent: false,
             bit_time: 1,
+            slots: SlotRule::Unstuffed,
             devices: Devices::none(alloc),
             manager: Manager::new(alloc),
             wire: None,
@@ -267,6 +272,7 @@ impl BusState {
             alloc: self.alloc,
             spent: false,
             bit_time: self.bit_time,
+            slots: self.slots,
             devices,
             manager,
             wire: self.wire,
@@ -290,6 +296,9 @@ impl BusState {
             return false;
         }
         if self.bit_time != other.bit_time {
+            return false;
+        }
+        if self.slots != other.slots {
             return false;
         }
         if !same_wire(&self.wire, &other.wire) {

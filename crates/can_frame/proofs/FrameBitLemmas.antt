@@ -9,7 +9,10 @@ use Rattle.std.proofs.lemmas.List.Concat.{flat_map-append}
 use Rattle.std.proofs.lemmas.Nat.Bits.{same_from_bits_below}
 use Rattle.base.specs.Bytes.{AreBytes}
 use Rattle.can_frame.specs.Frames.{BaseFrame, IsFrame}
+use Rattle.can_frame.specs.Slots.{bits_of_slot}
 use Rattle.can_frame.specs.WireBits.{bits, checked_bits, crc, exact_bits, plain_bits, stuffed, unstuffed, wire_bits}
+use Rattle.can_frame.specs.declared.slot_rule.SlotRule.{SlotRule}
+use Rattle.can_frame.specs.declared.slot_rule.SlotRule.TheVariants.{Unstuffed, Stuffed}
 use Rattle.can_frame.specs.declared.wire.Wire.{Wire}
 use Rattle.can_frame.specs.Sent.{HasSent}
 use Rattle.can_frame.proofs.SentLemmas.{bit_of}
@@ -100,6 +103,10 @@ plain_long frame = ap length (laid_out frame) ∙ omega (
 pub least_bits : (frame : BaseFrame) → 47 + 8 * length frame.bytes ≤ exact_bits frame
 least_bits frame = omega (arith, none_lost 0 0 (plain_bits frame), plain_long frame)
 
+pub least_of_slot : (rule : SlotRule) (frame : BaseFrame) → 47 + 8 * length frame.bytes ≤ bits_of_slot rule frame
+least_of_slot Unstuffed frame = omega arith
+least_of_slot Stuffed frame = least_bits frame
+
 pub most_bits : (frame : BaseFrame) → exact_bits frame ≤ 47 + 8 * length frame.bytes + (33 + 8 * length frame.bytes) / 4
 most_bits frame =
     let behind_start = bits 11 frame.id ++ control frame ++ tail frame in
@@ -151,4 +158,4 @@ counted frame items i wire last same all h more =
       ap (λ xs. length (stuffed xs)) (append-nil (plain_bits frame)),
     )
 
-pub ruleset bit_laws = (least_bits, most_bits, no_six, unstuffed_again, wire_is_of_one)
+pub ruleset bit_laws = (least_bits, least_of_slot, most_bits, no_six, unstuffed_again, wire_is_of_one)

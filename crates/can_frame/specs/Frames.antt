@@ -29,10 +29,6 @@ slot_bits frame = 47 + 8 * length frame.bytes
 abbrev pub bit_time : ℕ → ℕ
 bit_time rate = 1000 / rate
 
--- the time of a frame on the bus in microseconds
-abbrev pub slot_time : ℕ → BaseFrame → ℕ
-slot_time rate frame = slot_bits frame * bit_time rate
-
 -- ---- how a frame is stored
 
 -- the first `count` of eight bytes are those of the frame

@@ -4,6 +4,7 @@ pub mod Identifiers
 pub mod Least
 pub mod NmtMessages
 pub mod Sent
+pub mod Slots
 pub mod TraceLines
 pub mod WaitingFrames
 pub mod Winner

@@ -3,8 +3,10 @@ ghost use Rattle.std.specs.Prelude.{◌≡◌, ◌^◌, ◌<◌, ◌≤◌, ◌+
 ghost use Rattle.std.specs.Prelude.{Option, Some, None, ◌+◌, ◌*◌, ◌/◌, length, replicate};
 ghost use Rattle.can_frame.specs.declared.contender.Contender.{Contender as Bid};
 ghost use Rattle.can_frame.specs.declared.purpose.Purpose.{Purpose as Use};
+ghost use Rattle.can_frame.specs.declared.slot_rule.SlotRule.{SlotRule as Rule};
 ghost use Rattle.can_frame.specs.declared.waiting.Waiting.{Waiting as Queued};
 ghost use Rattle.can_frame.specs.Frames.{bit_time, BaseFrame, IsFrame};
+ghost use Rattle.can_frame.specs.Slots.{bits_of_slot};
 ghost use Rattle.can_frame.specs.TraceLines.{frame_line};
 ghost use Rattle.can_frame.specs.WaitingFrames.{is_same, with_latest, waiting, waits_for};
 ghost use Rattle.can_frame.specs.WireBits.{exact_bits, plain_bits, unstuffed, wire_bits};
@@ -79,6 +81,12 @@ pub fn a_frame_has_few_stuff_bits()
     ensures least { (frame : BaseFrame) → 47 + 8 * length frame.bytes ≤ exact_bits frame }
     ensures most { (frame : BaseFrame)
         → exact_bits frame ≤ 47 + 8 * length frame.bytes + (33 + 8 * length frame.bytes) / 4 }
+{}
+
+/// By either rule a frame of n bytes takes 47 + 8n bit times at least.
+#[tactic(auto, using(crate::proofs::FrameBitLemmas::bit_laws))]
+pub fn each_rule_counts_each_bit_of_a_frame()
+    ensures { (rule : Rule) (frame : BaseFrame) → 47 + 8 * length frame.bytes ≤ bits_of_slot rule frame }
 {}
 
 /// No six equal bits of a frame stand in a row on the wire.

@@ -1,1 +1,2 @@
+pub mod NetworkLemmas
 pub mod TakenLemmas

@@ -1,13 +1,14 @@
 //! A device and a manager, and the lines that play them.
 
 use crate::entries::Entries;
+use crate::network::show_run;
 use crate::one_node::OneNode;
 use crate::shown::{show_device, show_frame, show_left, show_manager, show_notes, show_value};
 use crate::step::Step;
 use crate::taken::{take_of_device, take_of_manager};
 use anyhow::Result;
 use base::{Octets, Shared};
-use can_frame::{Frame, Waiting};
+use can_frame::{Frame, SlotRule, Waiting};
 use cia301::is_of_pdos;
 use co_device::Device;
 use co_dict::Access;
@@ -37,6 +38,7 @@ pub struct Bench {
 fn roster_of(alloc: Global) -> Result<Roster, AllocError> {
     Ok(Roster {
         bit_rate: 1000,
+        slots: SlotRule::Unstuffed,
         manager: 127,
         sync_us: 0,
         sync_counter: 0,
@@ -75,6 +77,14 @@ fn mode_of(word: &str) -> StartMode {
     match word {
         "whole" => StartMode::WholeNetwork,
         _ => StartMode::EachNode,
+    }
+}
+
+/// The rule that a word gives.
+fn slots_of(word: &str) -> SlotRule {
+    match word {
+        "stuffed" => SlotRule::Stuffed,
+        _ => SlotRule::Unstuffed,
     }
 }
 
@@ -150,6 +160,7 @@ fn node_of(alloc: Global, entries: &Entries) -> Result<OneNode, AllocError> {
     let shape = entries.shape()?;
     Ok(OneNode {
         alloc,
+        slots: SlotRule::Unstuffed,
         defaults: Rc::new(alloc, defaults)?,
         shape: Rc::new(alloc, shape)?,
         expect: Identity { numbers: [0; 5] },
@@ -182,8 +193,9 @@ impl Bench {
     /// takes a frame), `beat` (the same, and then it runs what is due), `run` (the same at each moment from
     /// that of the line before), `set` (its application sets an entry), `sends` (its winner starts) and
     /// `value` (of one or two entries); of a manager `network`, `manager`, `clock`, `command` and `orders`; of
-    /// the networks that follow `each` and `whole` (which nodes are started, and when); all others speak of the
-    /// parts.
+    /// the networks that follow `each` and `whole` (which nodes are started, and when); of a network of such nodes on a
+    /// bus, from its power-on to a moment, `unstuffed` and `stuffed` (which bits of a frame take the bus); all others
+    /// speak of the parts.
     pub fn play<W: Write>(&mut self, out: &mut W, line: &str) -> Result<()> {
         let (word, text) = line.split_once(' ').unwrap_or((line, ""));
         if word == "#" {
@@ -202,6 +214,7 @@ impl Bench {
             "network" | "manager" | "clock" | "command" | "orders" => {
                 self.play_manager(out, word, step)
             }
+            "unstuffed" | "stuffed" => self.run_network(out, word, step),
             "value" => self.show_values(out, step),
             "each" | "whole" => self.change_start(word, step),
             "expect" | "write" | "forget" => self.change_boot(word, step),
@@ -328,6 +341,12 @@ impl Bench {
                 .on_frame(step.time, &frame, &mut self.node, &mut self.notes)?;
         }
         Ok(())
+    }
+
+    /// Runs a network of such nodes on a bus, and shows its trace.
+    fn run_network<W: Write>(&mut self, out: &mut W, word: &str, step: &Step) -> Result<()> {
+        self.node.slots = slots_of(word);
+        show_run(self.alloc, out, &mut self.node, step.time)
     }
 
     /// Shows the values of one or two entries of the device.

@@ -1,11 +1,12 @@
 //! Plays one device and one manager without a bus, by the lines of its input. It prints each line and
 //! what it leaves: the device's NMT state and the manager's notes, the next due moment, the frames that
 //! wait, and whether all is the same as before. Where it runs from moment to moment it also prints each at
-//! which frames waited, and takes them.
+//! which frames waited, and takes them. Of a network of two such devices on a bus it prints the trace.
 #![tactic(auto)]
 
 mod bench;
 mod entries;
+mod network;
 mod one_node;
 mod row;
 mod shown;

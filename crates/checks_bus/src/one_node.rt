@@ -1,4 +1,4 @@
-//! The parts of nodes that are all alike.
+//! The parts of nodes that are all alike, and of their network.
 
 ghost use Rattle.std.specs.Prelude.{◌≡◌, ◌<◌, IfOk, IfSome, option_and_then, slice_get};
 ghost use Rattle.image_parts.specs.Images.{greatest_place};
@@ -6,18 +6,23 @@ ghost use Rattle.concise_dcf.specs.Writes.{IsSized};
 ghost use Rattle.image_parts.specs.Shared.{value_behind};
 ghost use Rattle.checks_bus.specs.Alike.{fitting};
 
+use crate::network::network;
+use can_bus::Parts;
+use can_frame::SlotRule;
 use co_dict::{Dict, Shape};
 use concise_dcf::Write;
 use device_objects::Shapes;
-use image_parts::{Asked, Identity, Part, PartContent, Read};
+use image_parts::{Asked, Identity, Part, PartContent, Read, Roster, Window};
 use node_boot::Boots;
 use std::alloc::{AllocError, Global};
 use std::rc::Rc;
 
-/// Hands out the same parts for each node, and records what was asked.
+/// Hands out the same parts for each node, and the network with slots by a rule and without events, and records what was
+/// asked.
 #[derive(Drop)]
 pub struct OneNode {
     pub alloc: Global,
+    pub slots: SlotRule,
     pub defaults: Rc<Dict>,
     pub shape: Rc<Shape>,
     pub expect: Identity,
@@ -99,5 +104,33 @@ impl Boots for OneNode {
         let noted = write_at(self.alloc, &self.writes, place)?;
         self.asked.push(Read::new(Part::Boot(node, place), PartContent::of_boot(noted)))?;
         Ok(answer)
+    }
+}
+
+impl Parts for OneNode {
+    #[tactic(auto, using(image_parts::proofs::RecordLemmas::record_laws))]
+    fn roster(&mut self) -> Result<Option<Rc<Roster>>, AllocError> {
+        self.asks = self.asks.saturating_add(1);
+        let answer = Some(network(self.alloc, self.slots)?);
+        let noted = Some(network(self.alloc, self.slots)?);
+        self.asked
+            .push(Read::new(Part::Roster, PartContent::of_roster(noted)))?;
+        Ok(answer)
+    }
+
+    #[tactic(auto, using(image_parts::proofs::RecordLemmas::record_laws))]
+    fn events(&mut self, i: u32) -> Result<Option<Rc<Window>>, AllocError> {
+        self.asks = self.asks.saturating_add(1);
+        self.asked
+            .push(Read::new(Part::Events(i), PartContent::of_events(None)))?;
+        Ok(None)
+    }
+
+    fn take_asked(&mut self) -> Vec<Read> {
+        std::mem::replace(&mut self.asked, Vec::new(self.alloc))
+    }
+
+    fn asks(&self) -> u64 {
+        self.asks
     }
 }

@@ -23,7 +23,14 @@ fn show_concise(rt: &HostRuntime, node: u8, bytes: &[u8]) -> io::Result<()> {
 
 /// Shows the concise DCF of a node.
 pub fn show_writes(rt: &HostRuntime, made: &Plan, device: &DataSheet, node: u8) -> io::Result<()> {
-    let entries = writes(rt.alloc(), made, &Params::new(rt.alloc()), device, node)?;
+    let entries = writes(
+        rt.alloc(),
+        false,
+        made,
+        &Params::new(rt.alloc()),
+        device,
+        node,
+    )?;
     let bytes = encode(rt.alloc(), &entries)?;
     show_concise(rt, node, &bytes)
 }

@@ -14,7 +14,7 @@ mod shown;
 
 use anyhow::Result;
 use asked::{Asked, ask};
-use can_frame::{Frame, exact_bits, line, slot_bits, slot_time};
+use can_frame::{Frame, SlotRule, exact_bits, line, slot_bits, slot_time};
 use sheets::device;
 use std::io;
 use std::io::Write;
@@ -37,12 +37,20 @@ const FRAMES: [(u16, &[u8]); 11] = [
 /// Bit rates in kbit/s.
 const RATES: [u16; 7] = [10, 20, 50, 125, 250, 500, 1000];
 
-/// Prints the slot of a frame in bits, with its stuff bits, and without them in microseconds at each bit rate.
-fn show_slot(rt: &HostRuntime, frame: &Frame) -> io::Result<()> {
-    print!(rt; " bits {} exact {} us", slot_bits(frame), exact_bits(frame))?;
+/// Prints the time of a frame in microseconds by a rule, at each bit rate.
+fn show_times(rt: &HostRuntime, rule: SlotRule, frame: &Frame) -> io::Result<()> {
     for rate in &RATES {
-        print!(rt; " {}", slot_time(*rate, frame))?;
+        print!(rt; " {}", slot_time(rule, *rate, frame))?;
     }
+    Ok(())
+}
+
+/// Prints the slot of a frame without and with its stuff bits, in bits and in microseconds at each bit rate.
+fn show_slot(rt: &HostRuntime, frame: &Frame) -> io::Result<()> {
+    print!(rt; " bits {} us", slot_bits(frame))?;
+    show_times(rt, SlotRule::Unstuffed, frame)?;
+    print!(rt; " exact {} us", exact_bits(frame))?;
+    show_times(rt, SlotRule::Stuffed, frame)?;
     println!(rt; "")
 }
 

@@ -27,7 +27,8 @@ use Rattle.diag_lines.specs.declared.diag.Diag.{Diag}
 use Rattle.diag_lines.specs.declared.subject.Subject.TheVariants as of
 use Rattle.co_diag.specs.Faults.{parameter_code}
 use Rattle.co_diag.specs.Holds.{SetsUnfitValue, HoldsOf, Holds}
-use Rattle.co_diag.specs.Found.{device_for, diagnostic, set_fault, unfit_event}
+use Rattle.co_diag.specs.Found.{diagnostic, set_fault, unfit_event}
+use Rattle.co_diag.specs.Holds.{device_for}
 use Rattle.co_diag.proofs.MemberLemmas.{at_entry, entry_of}
 
 -- ---- which faults there are

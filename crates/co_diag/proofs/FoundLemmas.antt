@@ -13,6 +13,7 @@ use Rattle.diag_lines.specs.declared.code.Code.TheVariants.{TpdoTaken, TooManyBi
 use Rattle.diag_lines.specs.declared.code.Code.TheVariants.{NoDummy, BadIdentifier, NoIdentifier, ReservedType}
 use Rattle.diag_lines.specs.declared.code.Code.TheVariants.{SharedIdentifier, NotModelled, RemoteType, NoSync}
 use Rattle.diag_lines.specs.declared.code.Code.TheVariants.{UnfitConsumer, SkippedLine, OtherCounter, UnreachedStart}
+use Rattle.diag_lines.specs.declared.code.Code.TheVariants.{UnplannedTpdo, UnplannedRpdo, BesideLimits, UselessReceive}
 use Rattle.diag_lines.specs.declared.subject.Subject.{Subject}
 use Rattle.diag_lines.specs.declared.subject.Subject.TheVariants as of
 use Rattle.diag_lines.specs.declared.diag.Diag.{Diag}
@@ -21,7 +22,7 @@ use Rattle.diag_lines.specs.Sets.{IsListOf, sorted_set}
 use Rattle.co_diag.specs.Holds.{HoldsOf, Holds}
 use Rattle.co_diag.specs.Found.{diagnostic, unfit_parameters, unreadable_defaults, unfit_consumers, shared_identifiers}
 use Rattle.co_diag.specs.Found.{message_faults, message_warnings, unfit_event, skipped_lines, other_counters}
-use Rattle.co_diag.specs.Found.{diagnostics_found, diagnostics_of}
+use Rattle.co_diag.specs.Found.{diagnostics_found, diagnostics_of, vendor_findings}
 use Rattle.diag_lines.proofs.OrderLemmas.{diag_total, diag_exact}
 use Rattle.diag_lines.proofs.SetLemmas.{one_list, same_sets, set_is}
 use Rattle.co_diag.proofs.ParameterFound.{parameters_hold, parameters_listed}
@@ -33,6 +34,8 @@ use Rattle.co_diag.proofs.MessageFound.{messages_hold, messages_listed, no_syncs
 use Rattle.co_diag.proofs.MessageFound.{starts_listed, warnings_hold}
 use Rattle.co_diag.proofs.EventFound.{events_hold, events_listed}
 use Rattle.co_diag.proofs.TextFound.{lines_hold, lines_listed}
+use Rattle.co_diag.proofs.VendorFound.{limits_listed, unplanned_rpdos_listed, unplanned_tpdos_listed, useless_listed}
+use Rattle.co_diag.proofs.VendorFound.{vendor_findings_hold}
 
 -- what is found, group by group
 abbrev parameters : Content → List Diag
@@ -84,11 +87,15 @@ to_warnings p = to_messages p ++ warnings p
 abbrev to_events : Content → List Diag
 to_events p = to_warnings p ++ events p
 
+abbrev to_lines : Content → List Diag
+to_lines p = to_events p ++ lines p
+
 -- what is found holds
 all_hold : (p : Content) (d : Diag) → Contains (diagnostics_found p) d → Holds p d
 unfolding diagnostics_found
 all_hold p d =
-    of_either (to_events p) (lines p) (Holds p) d
+    of_either (to_lines p) (vendor_findings p) (Holds p) d
+    (of_either (to_events p) (lines p) (Holds p) d
     (of_either (to_warnings p) (events p) (Holds p) d
     (of_either (to_messages p) (warnings p) (Holds p) d
     (of_either (to_counters p) (messages p) (Holds p) d
@@ -104,17 +111,24 @@ all_hold p d =
     (messages_hold p d))
     (warnings_hold p d))
     (events_hold p d))
-    (lines_hold p d)
+    (lines_hold p d))
+    (vendor_findings_hold p d)
 
 -- where each group stands
 module _ (p : Content) (d : Diag) where
-  up_to_events : Contains (to_events p) d → Contains (diagnostics_found p) d
+  up_to_lines : Contains (to_lines p) d → Contains (diagnostics_found p) d
   unfolding diagnostics_found
-  up_to_events c = Contains-append_left (to_events p) (lines p) d c
+  up_to_lines c = Contains-append_left (to_lines p) (vendor_findings p) d c
+
+  in_vendor : Contains (vendor_findings p) d → Contains (diagnostics_found p) d
+  unfolding diagnostics_found
+  in_vendor c = Contains-append_right (to_lines p) (vendor_findings p) d c
+
+  up_to_events : Contains (to_events p) d → Contains (diagnostics_found p) d
+  up_to_events c = up_to_lines (Contains-append_left (to_events p) (lines p) d c)
 
   in_lines : Contains (lines p) d → Contains (diagnostics_found p) d
-  unfolding diagnostics_found
-  in_lines c = Contains-append_right (to_events p) (lines p) d c
+  in_lines c = up_to_lines (Contains-append_right (to_events p) (lines p) d c)
 
   up_to_warnings : Contains (to_warnings p) d → Contains (diagnostics_found p) d
   up_to_warnings c = up_to_events (Contains-append_left (to_warnings p) (events p) d c)
@@ -187,6 +201,10 @@ all_listed p UnfitConsumer (of.Node n (Some s)) h = in_consumers p _ (consumers_
 all_listed p SkippedLine (of.Eds name line) h = in_lines p _ (lines_listed p name line h)
 all_listed p OtherCounter (of.Node n None) h = in_counters p _ (counters_listed p n h)
 all_listed p UnreachedStart (of.Message name) h = in_warnings p _ (starts_listed p name h)
+all_listed p UnplannedTpdo (of.Tpdo n k) h = in_vendor p _ (unplanned_tpdos_listed p n k h)
+all_listed p UnplannedRpdo (of.Rpdo n k) h = in_vendor p _ (unplanned_rpdos_listed p n k h)
+all_listed p BesideLimits (of.Limit n i s) h = in_vendor p _ (limits_listed p n i s h)
+all_listed p UselessReceive (of.Receive name n) h = in_vendor p _ (useless_listed p name n h)
 all_listed p code subject h = absurd h
 
 found_holds : (p : Content) (d : Diag) → Contains (diagnostics_found p) d ↔ Holds p d

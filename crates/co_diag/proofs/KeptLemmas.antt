@@ -8,12 +8,13 @@ use Rattle.base.specs.Ranges.{is_between}
 use Rattle.co_values.specs.declared.form.Width.{Width}
 use Rattle.co_values.specs.declared.form.Width.TheVariants.{Bits8, Bits16, Bits32}
 use Rattle.eds_device.specs.Places.{pairs_of}
+use Rattle.project_edits.specs.Versions.{is_three}
 use Rattle.pdo_plan.specs.declared.planned_message.PlannedMessage.{PlannedMessage}
 use Rattle.co_project.specs.Project.{Content}
 use Rattle.project_plan.specs.Network.{Member, members, plan_of_project, writes_of}
 use Rattle.project_plan.specs.Values.{Numbers, number_after, values_after}
 use Rattle.project_plan.specs.Wanted.{is_tpdo_cob_id, is_wanted}
-use Rattle.project_plan.proofs.WantedLemmas.{number_wanted}
+use Rattle.project_plan.proofs.VendorWantedLemmas.{number_wanted_by}
 use Rattle.co_diag.specs.declared.consumer.HeartbeatConsumer.{HeartbeatConsumer}
 use Rattle.co_diag.specs.Found.{consumers, counters, identifiers}
 use Rattle.co_diag.specs.Kept.{numbers_by, times}
@@ -53,33 +54,33 @@ module _ (a b : Numbers) (agree : Agree a b) where
 -- ---- what is kept
 
 module _ (p : Content) where
-  agree : (e : ℕ × Member) → Agree (numbers_by (plan_of_project p) e) (numbers_of p e)
+  agree : (e : ℕ × Member) → Agree (numbers_by (is_three p.version) (plan_of_project p) e) (numbers_of p e)
   unfolding number_after values_after writes_of
-  agree e width place wanted = number_wanted (plan_of_project p) e.1.node.params e.1.sections e.0 width place wanted
+  agree e width place wanted = number_wanted_by (plan_of_project p) e.1.node.params e.1.sections e.0 (is_three p.version) width place wanted
 
   by_plan : {X : Type 0} (f : (ℕ × Member → Numbers) → ℕ × Member → List X) (plan : List PlannedMessage)
       → plan ≡ plan_of_project p
-      → flat_map (f (numbers_by plan)) (members p) ≡ flat_map (f (numbers_by (plan_of_project p))) (members p)
-  by_plan f plan is = ap (λ (m : List PlannedMessage). flat_map (f (numbers_by m)) (members p)) is
+      → flat_map (f (numbers_by (is_three p.version) plan)) (members p) ≡ flat_map (f (numbers_by (is_three p.version) (plan_of_project p))) (members p)
+  by_plan f plan is = ap (λ (m : List PlannedMessage). flat_map (f (numbers_by (is_three p.version) m)) (members p)) is
 
   module _ (plan : List PlannedMessage) (is : plan ≡ plan_of_project p) where
-    pub identifiers_kept : flat_map (identifiers_in (numbers_by plan)) (members p) ≡ identifiers p
+    pub identifiers_kept : flat_map (identifiers_in (numbers_by (is_three p.version) plan)) (members p) ≡ identifiers p
     unfolding identifiers
     identifiers_kept = by_plan identifiers_in plan is
         ∙ (λ i. flat_map (λ (e : ℕ × Member). filter_map (λ place. same_identifier
-        (numbers_by (plan_of_project p) e) (numbers_of p e) (agree e) place i) (pairs_of e.1.sections)) (members p))
+        (numbers_by (is_three p.version) (plan_of_project p) e) (numbers_of p e) (agree e) place i) (pairs_of e.1.sections)) (members p))
 
-    pub consumers_kept : flat_map (consumers_in (numbers_by plan)) (members p) ≡ consumers p
+    pub consumers_kept : flat_map (consumers_in (numbers_by (is_three p.version) plan)) (members p) ≡ consumers p
     unfolding consumers
     consumers_kept = by_plan consumers_in plan is
         ∙ (λ i. flat_map (λ (e : ℕ × Member). filter_map (λ place. same_consumer
-        (numbers_by (plan_of_project p) e) (numbers_of p e) (agree e) e.0 place i) (pairs_of e.1.sections)) (members p))
+        (numbers_by (is_three p.version) (plan_of_project p) e) (numbers_of p e) (agree e) e.0 place i) (pairs_of e.1.sections)) (members p))
 
-    pub times_kept : flat_map (times_in (numbers_by plan)) (members p) ≡ times p
+    pub times_kept : flat_map (times_in (numbers_by (is_three p.version) plan)) (members p) ≡ times p
     times_kept = by_plan times_in plan is
         ∙ (λ i. flat_map (λ (e : ℕ × Member). (e.0, unwrap_or (agree e Bits16 (0x1017, 0) refl i) 0) ∷ []) (members p))
 
-    pub counters_kept : flat_map (counters_in (numbers_by plan)) (members p) ≡ counters p
+    pub counters_kept : flat_map (counters_in (numbers_by (is_three p.version) plan)) (members p) ≡ counters p
     unfolding counters
     counters_kept = by_plan counters_in plan is
         ∙ (λ i. flat_map (λ (e : ℕ × Member). cons_option (option_map (λ n. (e.0, n))

@@ -8,6 +8,7 @@ pub mod SharedFound
 pub mod MessageFound
 pub mod EventFound
 pub mod TextFound
+pub mod VendorFound
 pub mod FoundLemmas
 pub mod DeviceLemmas
 pub mod WalkLemmas

@@ -20,7 +20,7 @@ use Rattle.diag_lines.specs.Sets.{sorted_set}
 use Rattle.diag_lines.proofs.ListLemmas.{Contains-first, Contains-later, Contains-cases}
 use Rattle.co_diag.specs.Found.{diagnostics_found, diagnostics_of, message_faults, message_warnings, other_counters}
 use Rattle.co_diag.specs.Found.{parameter_diagnostic, shared_identifiers, skipped_lines, unfit_consumers, unfit_event}
-use Rattle.co_diag.specs.Found.{unfit_parameters, unreadable_defaults}
+use Rattle.co_diag.specs.Found.{unfit_parameters, unreadable_defaults, vendor_findings}
 use Rattle.co_diag.specs.Sheets.{diagnostics_met, faults_of_node}
 use Rattle.co_diag.proofs.FoundLemmas.{collected}
 use Rattle.co_diag.proofs.ListLemmas.{Contains-flat_map, from_flat_map}
@@ -147,7 +147,8 @@ same_before xs ys zs d same =
 same_found : (p : Content) (d : Diag) → Contains (diagnostics_met p) d ↔ Contains (diagnostics_found p) d
 unfolding diagnostics_met diagnostics_found
 same_found p d =
-    same_before _ _ (flat_map skipped_lines (entries p.texts)) d
+    same_before _ _ (vendor_findings p) d
+    (same_before _ _ (flat_map skipped_lines (entries p.texts)) d
     (same_before _ _ (filter_map (unfit_event p) (entries p.events)) d
     (same_before _ _ (flat_map (message_warnings p) (entries p.messages)) d
     (same_before _ _ (flat_map message_faults (plan_of_project p)) d
@@ -156,7 +157,7 @@ same_found p d =
     (same_before _ _ (unfit_consumers p) d
     (same_before (flat_map faults_of_node (members p)) (flat_map unfit_parameters (members p))
     (flat_map unreadable_defaults (members p)) d
-    (nodes_same (members p) d))))))))
+    (nodes_same (members p) d)))))))))
 
 pub met_is : (p : Content) → sorted_set diag_cmp (diagnostics_met p) ≡ diagnostics_of p
 met_is p = collected p (diagnostics_met p) (same_found p)

@@ -29,6 +29,7 @@ use Rattle.diag_lines.specs.declared.code.Code.TheVariants.{TpdoTaken, TooManyBi
 use Rattle.diag_lines.specs.declared.code.Code.TheVariants.{NoDummy, BadIdentifier, NoIdentifier, ReservedType}
 use Rattle.diag_lines.specs.declared.code.Code.TheVariants.{SharedIdentifier, NotModelled, RemoteType, NoSync}
 use Rattle.diag_lines.specs.declared.code.Code.TheVariants.{UnfitConsumer, SkippedLine, OtherCounter, UnreachedStart}
+use Rattle.diag_lines.specs.declared.code.Code.TheVariants.{UnplannedTpdo, UnplannedRpdo, BesideLimits, UselessReceive}
 use Rattle.diag_lines.specs.declared.diag.Diag.{Diag}
 use Rattle.diag_lines.specs.declared.subject.Subject.{Subject}
 use Rattle.diag_lines.specs.declared.subject.Subject.TheVariants as of
@@ -72,6 +73,10 @@ module _ (p : Content) (number : ℕ) where
   of_event SkippedLine h = absurd h
   of_event OtherCounter h = absurd h
   of_event UnreachedStart h = absurd h
+  of_event UnplannedTpdo h = absurd h
+  of_event UnplannedRpdo h = absurd h
+  of_event BesideLimits h = absurd h
+  of_event UselessReceive h = absurd h
 
   listed_is_fault : (d : Diag) → Contains (diagnostics_of p) d → d.subject ≡ of.Event number
       → (fault : ParameterFault) × SetsUnfitValue p fault number

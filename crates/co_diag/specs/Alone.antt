@@ -1,5 +1,5 @@
 -- Private: what is kept of a node by numbers of its entries, and what is kept of it by itself.
-use Rattle.std.specs.Prelude.{◌≡◌, ℕ, [], ◌++◌, refl}
+use Rattle.std.specs.Prelude.{◌≡◌, ℕ, false, [], ◌++◌, refl}
 use Rattle.std.specs.Coded.{Coded, code_by, coded×, coded_ℕ}
 use Rattle.ini_text.specs.Content.{Content as DataSheet}
 use Rattle.co_project.specs.declared.node.Node.{Node}
@@ -18,7 +18,7 @@ member_code node_code device_code =
 
 -- the numbers that are wanted of a node that sends no message
 abbrev pub alone : ℕ × Member → Numbers
-alone = numbers_by []
+alone = numbers_by false []
 
 module _ (numbers : ℕ × Member → Numbers) (e : ℕ × Member) where
   -- this is what is kept of a node by these numbers

@@ -1,20 +1,17 @@
--- Private: the devices of a project, all of them read, and what walks over the project's tables find by them.
-use Rattle.std.specs.Prelude.{◌≡◌, ℕ, List, [], Some}
-use Rattle.std.specs.FinMap.{get}
+-- Private: the devices of a project's nodes, all of them read, and what walks over the project's tables find by them.
+use Rattle.std.specs.Prelude.{ℕ, List, [], All}
+use Rattle.std.specs.FinMap.{entries}
 use Rattle.std.specs.Option.{option_map_or}
-use Rattle.ini_text.specs.Content.{content_of}
 use Rattle.co_project.specs.declared.node.Node.{Node}
 use Rattle.co_project.specs.Project.{Content}
-use Rattle.co_project.specs.Tables.{text_at}
-use Rattle.project_plan.specs.Library.{Read}
+use Rattle.project_plan.specs.Library.{IsRead, Read}
 use Rattle.project_plan.specs.Network.{Member, device_at, member_of}
 use Rattle.diag_lines.specs.declared.diag.Diag.{Diag}
 use Rattle.co_diag.specs.Found.{lines_of}
 
--- the device of each text was read
+-- the device of each node was read
 unfoldable pub AreAllRead : Read → Type 0
-AreAllRead read = (name text : List ℕ) → text_at read.project.texts name ≡ Some text
-    → get read.devices name ≡ Some (content_of text)
+AreAllRead read = All (λ e. IsRead read e.1.eds) (entries read.project.nodes)
 
 -- the lines that aren't used of the text of a name
 abbrev pub lines_at : Content → List ℕ → List Diag

@@ -1,9 +1,10 @@
 -- The diagnostics of a project as a list. Which they are is said by `Holds`: a law says that the list has exactly what
 -- holds, each once, in order.
-use Rattle.std.specs.Prelude.{◌≡◌, ℕ, Bool, ◌==◌, ◌&&◌, not, nat_le, if◌then◌else◌, List, [], ◌∷◌, ◌++◌, length, map}
+use Rattle.std.specs.Prelude.{◌≡◌, ℕ, Bool, false, ◌==◌, ◌&&◌, ◌||◌, not, nat_le, if◌then◌else◌, List, [], ◌∷◌, ◌++◌, length, map}
 use Rattle.std.specs.Prelude.{filter, filter_map, Contains, Option, Some, None, option_map, option_and_then}
-use Rattle.std.specs.FinMap.{entries}
+use Rattle.std.specs.FinMap.{entries, get}
 use Rattle.std.specs.List.{flat_map}
+use Rattle.std.specs.Option.{option_map_or}
 use Rattle.std.specs.Result.{result_err}
 use Rattle.ini_text.specs.Content.{Content as DataSheet, content_of}
 use Rattle.cia301.specs.TransmissionTypes.{is_on_request}
@@ -16,24 +17,29 @@ use Rattle.node_parameters.specs.Parameters.{parameter_text}
 use Rattle.co_scenario.specs.declared.event.Event.{Event}
 use Rattle.co_scenario.specs.declared.event.Event.TheVariants as event
 use Rattle.co_scenario.specs.declared.timed_event.TimedEvent.{TimedEvent}
+use Rattle.project_edits.specs.Versions.{is_three}
 use Rattle.project_messages.specs.declared.linked.Linked.{Linked}
+use Rattle.project_messages.specs.declared.receive.Receive.{Receive}
+use Rattle.pdo_links.specs.VendorWrites.{vendor_link_writes}
+use Rattle.pdo_findings.specs.Findings.{refused_places, unplanned_rpdos, unplanned_tpdos}
+use Rattle.pdo_stations.specs.declared.as_made.AsMade.{AsMade}
+use Rattle.pdo_stations.specs.Devices.{as_made}
 use Rattle.pdo_plan.specs.declared.outcome.Outcome.{Outcome}
 use Rattle.pdo_plan.specs.declared.outcome.Outcome.TheVariants.{Planned, Faulty}
 use Rattle.pdo_plan.specs.declared.planned_message.PlannedMessage.{PlannedMessage}
-use Rattle.co_project.specs.declared.node.Node.{Node}
 use Rattle.co_project.specs.Project.{Content}
-use Rattle.co_project.specs.Tables.{node_at}
 use Rattle.project_plan.specs.Doubtful.{spells_none}
-use Rattle.project_plan.specs.Network.{Member, device_at, members, plan_of_project}
+use Rattle.project_plan.specs.Network.{Member, members, plan_of_project}
 use Rattle.diag_lines.specs.declared.code.Code.{Code}
 use Rattle.diag_lines.specs.declared.code.Code.TheVariants.{Unreadable, SharedIdentifier, RemoteType, NoSync}
 use Rattle.diag_lines.specs.declared.code.Code.TheVariants.{UnfitConsumer, SkippedLine, OtherCounter, UnreachedStart}
+use Rattle.diag_lines.specs.declared.code.Code.TheVariants.{UnplannedTpdo, UnplannedRpdo, BesideLimits, UselessReceive}
 use Rattle.diag_lines.specs.declared.subject.Subject.{Subject}
 use Rattle.diag_lines.specs.declared.subject.Subject.TheVariants as of
 use Rattle.diag_lines.specs.declared.diag.Diag.{Diag}
 use Rattle.co_diag.specs.Faults.{parameter_code, message_code}
 use Rattle.co_diag.specs.declared.consumer.HeartbeatConsumer.{HeartbeatConsumer}
-use Rattle.co_diag.specs.Holds.{producer_time, starts_at_none, type_of, waits_for_none}
+use Rattle.co_diag.specs.Holds.{device_for, is_useless, producer_time, starts_at_none, type_of, waits_for_none}
 use Rattle.co_diag.specs.Rules.{consumers_in, counters_in, identifiers_in, is_unfit, numbers_of}
 use Rattle.diag_lines.specs.Order.{diag_cmp}
 use Rattle.diag_lines.specs.Sets.{sorted_set}
@@ -126,11 +132,36 @@ message_warnings p m =
     said_if (is_on_request (type_of m.1)) RemoteType m.0 ++ said_if (waits_for_none p m.1) NoSync m.0
     ++ said_if (starts_at_none p m.1) UnreachedStart m.0
 
--- ---- events
+-- ---- in version 3
 
--- the device of the node of a number
-abbrev pub device_for : Content → ℕ → Option DataSheet
-device_for p id = option_and_then (λ (node : Node). device_at p node.eds) (node_at p.nodes id)
+-- what is found of the PDOs of a node by itself: those that go beside the plan, and writes beside limits
+unfoldable pub pdo_findings : List PlannedMessage → AsMade → ℕ → List Diag
+pdo_findings plan device node =
+    map (λ number. diagnostic UnplannedTpdo (of.Tpdo node number)) (unplanned_tpdos plan device node)
+    ++ map (λ number. diagnostic UnplannedRpdo (of.Rpdo node number)) (unplanned_rpdos plan device node)
+    ++ map (λ (place : ℕ × ℕ). diagnostic BesideLimits (of.Limit node place.0 place.1))
+    (refused_places device (vendor_link_writes plan device node))
+
+abbrev pub node_findings : List PlannedMessage → ℕ × Member → List Diag
+node_findings plan e = pdo_findings plan (as_made e.1.sections e.0) e.0
+
+-- a receive of a message that is of no use
+abbrev pub useless_receive : Content → PlannedMessage → Linked → ℕ × Receive → Option Diag
+useless_receive p m linked r =
+    if is_useless p linked m.outcome r then Some (diagnostic UselessReceive (of.Receive m.name r.0)) else None
+
+unfoldable pub useless_receives : Content → PlannedMessage → List Diag
+useless_receives p m =
+    option_map_or (λ (linked : Linked). filter_map (useless_receive p m linked) linked.receives) (get p.messages m.name) []
+
+-- all of it, in version 3 alone
+unfoldable pub vendor_findings : Content → List Diag
+vendor_findings p =
+    if is_three p.version
+    then flat_map (node_findings (plan_of_project p)) (members p) ++ flat_map (useless_receives p) (plan_of_project p)
+    else []
+
+-- ---- events
 
 -- the fault of what an event sets
 abbrev pub set_fault : Content → ℕ → Event → Option Diag
@@ -161,7 +192,7 @@ diagnostics_found p =
     flat_map unfit_parameters (members p) ++ flat_map unreadable_defaults (members p) ++ unfit_consumers p
     ++ shared_identifiers p ++ other_counters p ++ flat_map message_faults (plan_of_project p)
     ++ flat_map (message_warnings p) (entries p.messages) ++ filter_map (unfit_event p) (entries p.events)
-    ++ flat_map skipped_lines (entries p.texts)
+    ++ flat_map skipped_lines (entries p.texts) ++ vendor_findings p
 
 -- THE DIAGNOSTICS of a project: exactly what holds, each once, in order
 unfoldable pub diagnostics_of : Content → List Diag

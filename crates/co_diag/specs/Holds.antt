@@ -1,11 +1,11 @@
 -- What is wrong with a project: one predicate for each code (CiA 301 and 306 say what an entry, a PDO, an identifier
 -- and a heartbeat consumer may be; the codes are this profile's own).
-use Rattle.std.specs.Prelude.{◌≡◌, ◌≤◌, ℕ, ◌==◌, ◌&&◌, Bool, true, false, nat_lt, List, length, filter, map, Option}
-use Rattle.std.specs.Prelude.{Some, None, option_map, Err, Contains}
+use Rattle.std.specs.Prelude.{◌≡◌, ◌⊎◌, ◌≤◌, ℕ, ◌==◌, ◌&&◌, Bool, true, false, nat_lt, List, length, filter, map, Option}
+use Rattle.std.specs.Prelude.{Some, None, option_and_then, option_map, Err, Contains, not, ◌||◌}
 use Rattle.std.specs.FinMap.{get}
-use Rattle.std.specs.List.{flat_map}
+use Rattle.std.specs.List.{find, flat_map, list_any}
 use Rattle.std.specs.Option.{option_map_or}
-use Rattle.ini_text.specs.Content.{content_of}
+use Rattle.ini_text.specs.Content.{Content as DataSheet, content_of}
 use Rattle.cia301.specs.TransmissionTypes.{is_on_request, is_synchronous, type_of_byte}
 use Rattle.cia301.specs.declared.transmission_type.TransmissionType.{TransmissionType}
 use Rattle.cia301.specs.declared.transmission_type.TransmissionType.TheVariants.{Cyclic}
@@ -18,19 +18,32 @@ use Rattle.node_parameters.specs.declared.parameter_fault.ParameterFault.TheVari
 use Rattle.node_parameters.specs.Judgement.{parameter_bytes, set_bytes}
 use Rattle.node_parameters.specs.Parameters.{parameter_text}
 use Rattle.co_scenario.specs.declared.event.Event.TheVariants.{Set}
+use Rattle.project_edits.specs.Versions.{is_three}
 use Rattle.project_messages.specs.declared.linked.Linked.{Linked}
+use Rattle.project_messages.specs.declared.receive.Receive.{Receive}
+use Rattle.pdo_links.specs.VendorWrites.{vendor_link_writes}
+use Rattle.pdo_findings.specs.Findings.{can_have_event, refused_places, unplanned_rpdos, unplanned_tpdos}
+use Rattle.pdo_plan.specs.declared.clean.Clean.{Clean}
+use Rattle.pdo_plan.specs.declared.consumer.Consumer.{Consumer}
+use Rattle.pdo_stations.specs.declared.as_made.AsMade.{AsMade}
+use Rattle.pdo_stations.specs.Devices.{as_made}
 use Rattle.pdo_plan.specs.declared.message_fault.MessageFault.{MessageFault}
 use Rattle.pdo_plan.specs.declared.message_fault.MessageFault.TheVariants as message
+use Rattle.pdo_plan.specs.declared.outcome.Outcome.{Outcome}
 use Rattle.pdo_plan.specs.declared.outcome.Outcome.TheVariants.{Faulty}
+use Rattle.pdo_plan.specs.Plan.{clean_of}
 use Rattle.pdo_plan.specs.declared.planned_message.PlannedMessage.{PlannedMessage}
+use Rattle.co_project.specs.declared.node.Node.{Node}
 use Rattle.co_project.specs.Project.{Content}
-use Rattle.project_plan.specs.Network.{Member, member_at, members, plan_of_project}
+use Rattle.co_project.specs.Tables.{node_at}
+use Rattle.project_plan.specs.Network.{Member, device_at, member_at, members, plan_of_project}
 use Rattle.diag_lines.specs.declared.code.Code.{Code}
 use Rattle.diag_lines.specs.declared.code.Code.TheVariants.{NoEntry, Unreadable, OutsideLimits, NotWritable, NoObjects}
 use Rattle.diag_lines.specs.declared.code.Code.TheVariants.{TpdoTaken, TooManyBits, NotMappable, Mismatched, NoRpdo}
 use Rattle.diag_lines.specs.declared.code.Code.TheVariants.{NoDummy, BadIdentifier, NoIdentifier, ReservedType}
 use Rattle.diag_lines.specs.declared.code.Code.TheVariants.{SharedIdentifier, NotModelled, RemoteType, NoSync}
 use Rattle.diag_lines.specs.declared.code.Code.TheVariants.{UnfitConsumer, SkippedLine, OtherCounter, UnreachedStart}
+use Rattle.diag_lines.specs.declared.code.Code.TheVariants.{UnplannedTpdo, UnplannedRpdo, BesideLimits, UselessReceive}
 use Rattle.diag_lines.specs.declared.subject.Subject.{Subject}
 use Rattle.diag_lines.specs.declared.subject.Subject.TheVariants as of
 use Rattle.diag_lines.specs.declared.diag.Diag.{Diag}
@@ -74,6 +87,10 @@ pub record HasMessageFault (p : Content) (fault : MessageFault) (name : List ℕ
   pub named : said.name ≡ name
   pub faulty : said.outcome ≡ Faulty faults
   pub has : Contains faults fault
+
+-- a node takes a message
+abbrev pub is_consumer : Linked → ℕ → Bool
+is_consumer linked node = list_any (λ s. s.0.1 == node) linked.sinks
 
 -- a message that passes a test, whether it is clean or not
 pub record HasMessage (p : Content) (test : Linked → Bool) (name : List ℕ) : Type 0 where
@@ -141,6 +158,64 @@ pub record SkipsLine (p : Content) (name : List ℕ) (line : ℕ) : Type 0 where
   pub there : get p.texts name ≡ Some text
   pub warned : Contains (content_of text).warnings line
 
+-- ---- in version 3
+
+-- a node of a project of version 3, as its vendor made it
+pub record IsMadeNode (p : Content) (node : ℕ) (device : AsMade) : Type 0 where
+  pub member : Member
+  pub rules : is_three p.version ≡ true
+  pub is : member_at p node ≡ Some member
+  pub made : device ≡ as_made member.sections node
+
+-- a TPDO of a node is sent beside the plan
+pub record SendsUnplanned (p : Content) (node number : ℕ) : Type 0 where
+  pub device : AsMade
+  pub made : IsMadeNode p node device
+  pub found : Contains (unplanned_tpdos (plan_of_project p) device node) number
+
+-- an RPDO of a node takes what isn't meant for it
+pub record TakesUnplanned (p : Content) (node number : ℕ) : Type 0 where
+  pub device : AsMade
+  pub made : IsMadeNode p node device
+  pub found : Contains (unplanned_rpdos (plan_of_project p) device node) number
+
+-- the plan writes beside the limits of an entry of a node's PDOs
+pub record IsWrittenBesideLimits (p : Content) (node index sub : ℕ) : Type 0 where
+  pub device : AsMade
+  pub made : IsMadeNode p node device
+  pub found : Contains (refused_places device (vendor_link_writes (plan_of_project p) device node)) (index, sub)
+
+-- the data sheet of the node of a number
+abbrev pub device_for : Content → ℕ → Option DataSheet
+device_for p id = option_and_then (λ (node : Node). device_at p node.eds) (node_at p.nodes id)
+
+-- the RPDO by which a node takes a message, where that is clean
+abbrev pub rpdo_taken : Outcome → ℕ → Option ℕ
+rpdo_taken outcome node = option_map (λ (k : Consumer). k.rpdo)
+    (option_and_then (λ (c : Clean). find (λ k. k.node == node) c.consumers) (clean_of outcome))
+
+-- an RPDO of a node can't have an event time
+abbrev pub lacks_event : Content → ℕ → ℕ → ℕ → Bool
+lacks_event p node event rpdo =
+    option_map_or (λ (d : DataSheet). not (can_have_event (as_made d.sections node) rpdo event)) (device_for p node) false
+
+-- a receive of a message is of a node that doesn't take it, or of one whose RPDO can't have the event time
+unfoldable pub is_useless : Content → Linked → Outcome → ℕ × Receive → Bool
+is_useless p linked outcome r =
+    not (is_consumer linked r.0) || option_map_or (lacks_event p r.0 r.1.event) (rpdo_taken outcome r.0) false
+
+-- a message has a receive that is of no use
+pub record IsUselessReceive (p : Content) (name : List ℕ) (node : ℕ) : Type 0 where
+  pub said : PlannedMessage
+  pub linked : Linked
+  pub receive : Receive
+  pub rules : is_three p.version ≡ true
+  pub planned : Contains (plan_of_project p) said
+  pub named : said.name ≡ name
+  pub there : get p.messages name ≡ Some linked
+  pub given : Contains linked.receives (node, receive)
+  pub useless : is_useless p linked said.outcome (node, receive) ≡ true
+
 -- WHAT HOLDS of a project: a code, and of what
 abbrev pub HoldsOf : Content → Code → Subject → Type 0
 HoldsOf p NoEntry (of.Param node index sub) = HasUnfitParameter p parameter.NoEntry node index sub
@@ -169,6 +244,10 @@ HoldsOf p UnfitConsumer (of.Node node (Some sub)) = HasUnfitConsumer p node sub
 HoldsOf p SkippedLine (of.Eds name line) = SkipsLine p name line
 HoldsOf p OtherCounter (of.Node node None) = HasOtherCounter p node
 HoldsOf p UnreachedStart (of.Message name) = HasMessage p (starts_at_none p) name
+HoldsOf p UnplannedTpdo (of.Tpdo node number) = SendsUnplanned p node number
+HoldsOf p UnplannedRpdo (of.Rpdo node number) = TakesUnplanned p node number
+HoldsOf p BesideLimits (of.Limit node index sub) = IsWrittenBesideLimits p node index sub
+HoldsOf p UselessReceive (of.Receive name node) = IsUselessReceive p name node
 HoldsOf p code subject = ⊥
 
 unfoldable pub Holds : Content → Diag → Type 0

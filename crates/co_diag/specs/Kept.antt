@@ -1,5 +1,5 @@
 -- Private: the numbers by which the rules are asked of nodes, those that are wanted, and the times that are kept of them.
-use Rattle.std.specs.Prelude.{ℕ, ◌==◌, List, Option, option_map}
+use Rattle.std.specs.Prelude.{ℕ, ◌==◌, Bool, List, Option, option_map}
 use Rattle.std.specs.List.{find, flat_map}
 use Rattle.pdo_plan.specs.declared.planned_message.PlannedMessage.{PlannedMessage}
 use Rattle.co_project.specs.Project.{Content}
@@ -8,9 +8,9 @@ use Rattle.project_plan.specs.Values.{Numbers, number_among}
 use Rattle.project_plan.specs.Wanted.{wanted_by}
 use Rattle.co_diag.specs.Rules.{numbers_of, times_in}
 
--- the numbers that are wanted of a node
-abbrev pub numbers_by : List PlannedMessage → ℕ × Member → Numbers
-numbers_by plan e = number_among e.1.sections (wanted_by plan e)
+-- the numbers that are wanted of a node, by the rules of version 3 or not
+abbrev pub numbers_by : Bool → List PlannedMessage → ℕ × Member → Numbers
+numbers_by is_three plan e = number_among e.1.sections (wanted_by is_three plan e)
 
 -- the times of all nodes
 abbrev pub times : Content → List (ℕ × ℕ)

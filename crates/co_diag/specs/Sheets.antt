@@ -7,7 +7,7 @@ use Rattle.project_plan.specs.Network.{Member, members, plan_of_project}
 use Rattle.project_plan.specs.GivenParameters.{given_places}
 use Rattle.diag_lines.specs.declared.diag.Diag.{Diag}
 use Rattle.co_diag.specs.Found.{message_faults, message_warnings, other_counters, parameter_diagnostic}
-use Rattle.co_diag.specs.Found.{shared_identifiers, skipped_lines, unfit_consumers, unfit_event, unreadable_defaults}
+use Rattle.co_diag.specs.Found.{shared_identifiers, skipped_lines, unfit_consumers, unfit_event, unreadable_defaults, vendor_findings}
 
 -- the faults of a node's own parameters, and of those that its data sheet gives
 unfoldable pub faults_of_node : ℕ × Member → List Diag
@@ -20,4 +20,4 @@ diagnostics_met p =
     flat_map faults_of_node (members p) ++ flat_map unreadable_defaults (members p) ++ unfit_consumers p
     ++ shared_identifiers p ++ other_counters p ++ flat_map message_faults (plan_of_project p)
     ++ flat_map (message_warnings p) (entries p.messages) ++ filter_map (unfit_event p) (entries p.events)
-    ++ flat_map skipped_lines (entries p.texts)
+    ++ flat_map skipped_lines (entries p.texts) ++ vendor_findings p

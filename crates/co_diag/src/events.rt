@@ -1,26 +1,16 @@
 //! What is wrong with the events of the scenario, put at the end of what was found.
-ghost use Rattle.std.specs.Prelude.{◌≡◌, ◌++◌, OnOk, IfOk, filter_map, option_copied};
+ghost use Rattle.std.specs.Prelude.{◌≡◌, ◌++◌, OnOk, IfOk, filter_map};
 ghost use Rattle.std.specs.FinMap as table;
 ghost use Rattle.co_diag.specs.Devices.{AreAllRead};
-ghost use Rattle.co_diag.specs.Found.{device_for, set_fault, unfit_event};
+ghost use Rattle.co_diag.specs.Found.{set_fault, unfit_event};
 
-use crate::devices::device_of;
+use crate::devices::device_for;
 use crate::parameters::parameter_code;
 use co_scenario::Event;
 use diag_lines::{Diag, Subject};
-use eds_device::DataSheet;
 use node_parameters::judge_set;
 use project_plan::Library;
 use std::alloc::{AllocError, Global};
-
-/// The device of a node.
-fn device_for<'b>(library: &'b Library<'_>, id: u8) -> Option<&'b DataSheet>
-    requires { AreAllRead library.now }
-    ensures { option_copied result ≡ device_for library.now.project id }
-{
-    let node = library.project().node(id)?;
-    device_of(library, node.eds.as_slice())
-}
 
 /// What is said of an event by its number.
 fn unfit_event(

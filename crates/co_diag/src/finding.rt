@@ -11,12 +11,13 @@ use crate::consumers::find_unfit_consumers;
 use crate::counters::find_other_counters;
 use crate::devices::read_all;
 use crate::events::find_unfit_events;
+use crate::found_before::FoundBefore;
 use crate::gathering::{add_copies, gather_nodes};
 use crate::kept::Kept;
 use crate::messages::{find_message_faults, find_warnings};
-use crate::nodes_found::NodesFound;
 use crate::shared::find_shared;
 use crate::texts::find_skipped_lines;
+use crate::vendor::find_in_version_3;
 use co_project::Project;
 use diag_lines::{Diag, sort_once};
 use pdo_plan::Plan;
@@ -48,44 +49,47 @@ fn find_all(
     alloc: Global,
     library: &Library<'_>,
     plan: &Plan,
-    nodes: &mut NodesFound,
+    before: &mut FoundBefore,
 ) -> Result<Vec<Diag>, AllocError>
     requires read { AreAllRead library.now }
     requires plan { plan.now ≡ plan_of_project library.now.project }
     ensures { IfOk result (λ list. list.items ≡ diagnostics_met library.now.project) }
 {
     let mut list = Vec::new(alloc);
-    let gathered = gather_nodes(&mut list, alloc, library, plan, nodes)?;
+    let gathered = gather_nodes(&mut list, alloc, library, plan, &mut before.nodes)?;
     add_copies(&mut list, alloc, &gathered.defaults)?;
     find_of_configured(&mut list, library.project(), &gathered.kept)?;
     find_message_faults(&mut list, alloc, plan)?;
     find_warnings(&mut list, alloc, library.project())?;
     find_unfit_events(&mut list, alloc, library)?;
-    find_skipped_lines(&mut list, alloc, library)?;
+    find_skipped_lines(&mut list, alloc, library, &mut before.lines)?;
+    find_in_version_3(&mut list, alloc, library, plan)?;
     Ok(list)
 }
 
 /// The diagnostics of a library's project, by the plan of its messages: all that is wrong with it, each
-/// once, in order. What is found of nodes by themselves is held for the next time.
+/// once, in order. What is found of nodes by themselves, and the lines that aren't used of texts that no node has, are held
+/// for the next time.
 ///
-/// Reads each text that the library hasn't read. Else takes time by the number of the texts' warnings, of the
-/// entries and parameters of each node that isn't the same, with the same device, as when it was last found, of the
-/// parameters and the length of the text of each other, of the entries of each node that sends a message, of the
-/// messages for each node, of the events, and of the diagnostics with its logarithm; memory by the number of
-/// diagnostics, the devices of all texts, the parameters of all nodes, and for each node the entries that its data sheet
-/// gives a parameter or a doubtful default, and the values that are wanted of it. Want of memory is the only error.
+/// Reads each text of a node that the library hasn't read, and each other text that isn't the same as before. Else takes
+/// time by the length of these others, the number of the texts' warnings, the entries and parameters of each node that
+/// isn't the same, with the same device, as when it was last found, the parameters and the length of the text of each
+/// other, the entries of each node that sends a message, the messages for each node, the events, and the diagnostics
+/// with their logarithm; memory by the number of diagnostics, the devices of the nodes' texts and of one more, the
+/// parameters of all nodes, and for each node the entries that its data sheet gives a parameter or a doubtful default,
+/// and the values that are wanted of it. Want of memory is the only error.
 pub fn diagnostics_by(
     alloc: Global,
     library: &mut Library<'_>,
     plan: &Plan,
-    nodes: &mut NodesFound,
+    before: &mut FoundBefore,
 ) -> Result<Vec<Diag>, AllocError>
     requires { plan.now ≡ plan_of_project library.old.project }
     ensures list { IfOk result (λ list. list.items ≡ diagnostics_of library.old.project) }
     ensures project { library.new.project ≡ library.old.project }
 {
     read_all(library)?;
-    let mut list = find_all(alloc, library, plan, nodes)?;
+    let mut list = find_all(alloc, library, plan, before)?;
     sort_once(&mut list);
     Ok(list)
 }
@@ -97,6 +101,6 @@ pub fn diagnostics(alloc: Global, project: &Project, plan: &Plan) -> Result<Vec<
     ensures { IfOk result (λ list. list.items ≡ diagnostics_of project.now) }
 {
     let mut library = Library::new(alloc, project);
-    let mut nodes = NodesFound::new(alloc);
-    diagnostics_by(alloc, &mut library, plan, &mut nodes)
+    let mut before = FoundBefore::new(alloc);
+    diagnostics_by(alloc, &mut library, plan, &mut before)
 }

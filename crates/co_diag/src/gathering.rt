@@ -1,9 +1,11 @@
 //! What is found of all nodes, gathered.
-ghost use Rattle.std.specs.Prelude.{◌≡◌, ◌++◌, IfOk, OnOk, false};
+ghost use Rattle.std.specs.Prelude.{◌≡◌, ◌++◌, IfOk, OnOk, false, true};
 ghost use Rattle.std.specs.List.{flat_map};
-ghost use Rattle.project_plan.specs.Network.{members, plan_of_project};
+ghost use Rattle.project_edits.specs.Versions.{is_three};
+ghost use Rattle.project_plan.specs.Network.{member_of, members, plan_of_project};
 ghost use Rattle.project_plan.specs.Wanted.{sends};
 ghost use Rattle.co_diag.specs.Alone.{Keeps};
+ghost use Rattle.project_plan.specs.Library.{IsRead};
 ghost use Rattle.co_diag.specs.Devices.{AreAllRead, of_node};
 ghost use Rattle.co_diag.specs.Found.{consumers, counters, identifiers, unreadable_defaults};
 ghost use Rattle.co_diag.specs.Kept.{numbers_by, times};
@@ -14,10 +16,14 @@ use crate::devices::shared_device;
 use crate::kept::{Kept, keep_values};
 use crate::node_found::NodeFound;
 use crate::nodes_found::NodesFound;
+use base::Shared;
 use co_project::Node;
 use diag_lines::Diag;
+use eds_device::DataSheet;
+use pdo_links::vendor_link_writes;
 use pdo_plan::Plan;
-use project_plan::{Library, sends, wanted_values};
+use pdo_stations::AsMade;
+use project_plan::{Library, sends, vendor_wanted_values, wanted_values};
 use std::alloc::{AllocError, Global};
 
 /// What is found of nodes beside the faults of their parameters.
@@ -44,19 +50,19 @@ pub(crate) fn add_copies(
     Ok(())
 }
 
-/// Keeps what there is of a node that sends no message.
+/// Keeps what there is of a node that sends no message, in versions 1 and 2.
 fn keep_alone(kept: &mut Kept, plan: &Plan, found: &NodeFound) -> Result<(), AllocError>
     requires { sends plan.now found.now.0 ≡ false }
-    ensures { OnOk result (Keeps (numbers_by plan.now) found.now kept.old kept.new) }
+    ensures { OnOk result (Keeps (numbers_by false plan.now) found.now kept.old kept.new) }
 {
     let _ = plan;
     kept.add(found.kept())?;
     Ok(())
 }
 
-/// Keeps what there is of a node once it is configured by a plan.
-fn keep_found(kept: &mut Kept, plan: &Plan, found: &NodeFound) -> Result<(), AllocError>
-    ensures { OnOk result (Keeps (numbers_by plan.now) found.now kept.old kept.new) }
+/// Keeps what there is of a node once it is configured by a plan, in versions 1 and 2.
+fn keep_planned(kept: &mut Kept, plan: &Plan, found: &NodeFound) -> Result<(), AllocError>
+    ensures { OnOk result (Keeps (numbers_by false plan.now) found.now kept.old kept.new) }
 {
     let id = found.id();
     if !sends(plan, id) {
@@ -67,23 +73,85 @@ fn keep_found(kept: &mut Kept, plan: &Plan, found: &NodeFound) -> Result<(), All
     Ok(())
 }
 
+/// Keeps it in version 3, where the plan keeps to a device as its vendor made it.
+fn keep_as_made(
+    kept: &mut Kept,
+    alloc: Global,
+    plan: &Plan,
+    found: &NodeFound,
+) -> Result<(), AllocError>
+    ensures { OnOk result (Keeps (numbers_by true plan.now) found.now kept.old kept.new) }
+{
+    let id = found.id();
+    let made = AsMade::of(found.device(), id)?;
+    let writes = vendor_link_writes(alloc, plan, &made, id)?;
+    let values = vendor_wanted_values(found.given(), writes.as_slice())?;
+    keep_values(kept, id, found.device(), &values)?;
+    Ok(())
+}
+
+/// Keeps what there is of a node once it is configured by a plan.
+fn keep_found(
+    kept: &mut Kept,
+    alloc: Global,
+    is_three: bool,
+    plan: &Plan,
+    found: &NodeFound,
+) -> Result<(), AllocError>
+    ensures { OnOk result (Keeps (numbers_by is_three plan.now) found.now kept.old kept.new) }
+{
+    if is_three {
+        keep_as_made(kept, alloc, plan, found)
+    } else {
+        keep_planned(kept, plan, found)
+    }
+}
+
 /// Gathers what is found of a node.
 fn gather_found(
     faults: &mut Vec<Diag>,
     gathered: &mut Gathered,
     alloc: Global,
+    is_three: bool,
     plan: &Plan,
     found: &NodeFound,
 ) -> Result<(), AllocError>
     ensures faults { OnOk result (faults.new.items ≡ faults.old.items ++ faults_of_node found.now) }
     ensures defaults { OnOk result (gathered.new.defaults.items
         ≡ gathered.old.defaults.items ++ unreadable_defaults found.now) }
-    ensures kept { OnOk result (Keeps (numbers_by plan.now) found.now gathered.old.kept gathered.new.kept) }
+    ensures kept { OnOk result (Keeps (numbers_by is_three plan.now) found.now gathered.old.kept gathered.new.kept) }
 {
     add_copies(faults, alloc, found.faults())?;
     add_copies(&mut gathered.defaults, alloc, found.defaults())?;
-    keep_found(&mut gathered.kept, plan, found)?;
+    keep_found(&mut gathered.kept, alloc, is_three, plan, found)?;
     Ok(())
+}
+
+/// Gathers what is found of a node that has this device: what was found of it before, where it didn't change.
+fn gather_of(
+    faults: &mut Vec<Diag>,
+    gathered: &mut Gathered,
+    alloc: Global,
+    is_three: bool,
+    plan: &Plan,
+    nodes: &mut NodesFound,
+    id: u8,
+    node: &Node,
+    device: Shared<DataSheet>,
+) -> Result<(), AllocError>
+    ensures faults { OnOk result (faults.new.items
+        ≡ faults.old.items ++ faults_of_node (member_of id node.now device)) }
+    ensures defaults { OnOk result (gathered.new.defaults.items
+        ≡ gathered.old.defaults.items ++ unreadable_defaults (member_of id node.now device)) }
+    ensures kept { OnOk result (Keeps (numbers_by is_three plan.now) (member_of id node.now device)
+        gathered.old.kept gathered.new.kept) }
+{
+    if let Some(found) = nodes.current(id, node, device.get()) {
+        return gather_found(faults, gathered, alloc, is_three, plan, found);
+    }
+    let found = nodes.find(alloc, id, node, device)?;
+    gather_found(faults, gathered, alloc, is_three, plan, &found)?;
+    nodes.put(found)
 }
 
 /// Gathers it of a node, where it has a device.
@@ -97,26 +165,27 @@ fn gather_node(
     id: u8,
     node: &Node,
 ) -> Result<(), AllocError>
-    requires { AreAllRead library.now }
+    requires { IsRead library.now node.now.eds }
     ensures faults { OnOk result (faults.new.items
         ≡ faults.old.items ++ of_node faults_of_node library.now.project (id, node.now)) }
     ensures defaults { OnOk result (gathered.new.defaults.items
         ≡ gathered.old.defaults.items ++ of_node unreadable_defaults library.now.project (id, node.now)) }
     ensures identifiers { OnOk result (gathered.new.kept.identifiers.items ≡ gathered.old.kept.identifiers.items
-        ++ of_node (identifiers_in (numbers_by plan.now)) library.now.project (id, node.now)) }
+        ++ of_node (identifiers_in (numbers_by (is_three library.now.project.version) plan.now)) library.now.project (id, node.now)) }
     ensures consumers { OnOk result (gathered.new.kept.consumers.items ≡ gathered.old.kept.consumers.items
-        ++ of_node (consumers_in (numbers_by plan.now)) library.now.project (id, node.now)) }
+        ++ of_node (consumers_in (numbers_by (is_three library.now.project.version) plan.now)) library.now.project (id, node.now)) }
     ensures times { OnOk result (gathered.new.kept.times.items ≡ gathered.old.kept.times.items
-        ++ of_node (times_in (numbers_by plan.now)) library.now.project (id, node.now)) }
+        ++ of_node (times_in (numbers_by (is_three library.now.project.version) plan.now)) library.now.project (id, node.now)) }
     ensures counters { OnOk result (gathered.new.kept.counters.items ≡ gathered.old.kept.counters.items
-        ++ of_node (counters_in (numbers_by plan.now)) library.now.project (id, node.now)) }
+        ++ of_node (counters_in (numbers_by (is_three library.now.project.version) plan.now)) library.now.project (id, node.now)) }
 {
     let Some(device) = shared_device(library, node.eds.as_slice())? else {
         return Ok(());
     };
-    let found = nodes.take(alloc, id, node, device)?;
-    gather_found(faults, gathered, alloc, plan, &found)?;
-    nodes.put(found)?;
+    let is_three = library.project().version().is_three();
+    gather_of(
+        faults, gathered, alloc, is_three, plan, nodes, id, node, device,
+    )?;
     Ok(())
 }
 

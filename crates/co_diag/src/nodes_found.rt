@@ -15,7 +15,7 @@ use std::marker::Model;
 /// What was found of nodes by themselves, each with what it was found by: so `diagnostics_by` finds it again where a
 /// node changed. Contracts see nothing of it, since it changes no answer.
 #[derive(Drop)]
-pub struct NodesFound {
+pub(crate) struct NodesFound {
     found: BTreeMap<u8, NodeFound>,
 }
 
@@ -25,21 +25,9 @@ impl Model for NodesFound {
     ghost view = { λ n. tt };
 }
 
-/// What was found of the node of a number, as long as it was found by this.
-fn still_of(taken: Option<NodeFound>, id: u8, node: &Node, device: &DataSheet) -> Option<NodeFound>
-    ensures { IfSome result (λ found. found ≡ member_of id node.now device.now) }
-{
-    let found = taken?;
-    if found.is_of(id, node, device) {
-        Some(found)
-    } else {
-        None
-    }
-}
-
 impl NodesFound {
     /// Nothing was found yet.
-    pub fn new(alloc: Global) -> NodesFound {
+    pub(crate) fn new(alloc: Global) -> NodesFound {
         NodesFound {
             found: BTreeMap::new(alloc),
         }
@@ -63,10 +51,22 @@ impl NodesFound {
         Shared::new(alloc, sheet)
     }
 
-    /// Takes out what was found of a node by itself; finds it again where the node changed. Takes time by the length of
-    /// the node's parameters and of the device's text, and where the node changed by the number of the device's entries.
-    pub(crate) fn take(
-        &mut self,
+    /// What was found of a node by itself, as long as that didn't change. Takes time by the length of the node's parameters
+    /// and of the device's text.
+    pub(crate) fn current(&self, id: u8, node: &Node, device: &DataSheet) -> Option<&NodeFound>
+        ensures { IfSome result (λ found. found.now ≡ member_of id node.now device.now) }
+    {
+        let found = self.found.get(&id)?;
+        if found.is_of(id, node, device) {
+            Some(found)
+        } else {
+            None
+        }
+    }
+
+    /// Finds it. Takes time by the number of the device's entries and of the node's parameters.
+    pub(crate) fn find(
+        &self,
         alloc: Global,
         id: u8,
         node: &Node,
@@ -74,15 +74,11 @@ impl NodesFound {
     ) -> Result<NodeFound, AllocError>
         ensures { IfOk result (λ found. found ≡ member_of id node.now device) }
     {
-        let taken = self.found.remove(&id);
-        if let Some(found) = still_of(taken, id, node, device.get()) {
-            return Ok(found);
-        }
         let sheet = self.sheet(alloc, device.get())?;
         NodeFound::find(alloc, id, node, device, sheet)
     }
 
-    /// Puts back what was found of a node.
+    /// Keeps what was found of a node.
     pub(crate) fn put(&mut self, found: NodeFound) -> Result<(), AllocError> {
         self.found.insert(found.id(), found)?;
         Ok(())

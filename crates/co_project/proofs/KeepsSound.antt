@@ -17,18 +17,19 @@ use Rattle.project_messages.specs.declared.linked.Linked.{Linked}
 use Rattle.project_messages.specs.declared.message.Message.{Message}
 use Rattle.project_messages.specs.Messages.{with_changed, is_of_messages, is_full_for as is_full_of, linked_to, with_message}
 use Rattle.project_messages.specs.Messages.{with_sink, with_source, with_start, without_sink, without_source, name_cmp}
-use Rattle.project_messages.specs.Messages.{Named}
+use Rattle.project_messages.specs.Messages.{are_received, has_receive, have_receives, with_receive, without_receive, Named}
 use Rattle.project_edits.specs.declared.fault.EditFault.{EditFault}
+use Rattle.project_edits.specs.declared.fault.EditFault.TheVariants.{Range, Unknown}
 use Rattle.project_edits.specs.declared.manager_settings.ManagerSettings.{ManagerSettings}
 use Rattle.project_edits.specs.declared.script_version.ScriptVersion.{ScriptVersion}
-use Rattle.project_edits.specs.declared.script_version.ScriptVersion.TheVariants.{One, Two}
+use Rattle.project_edits.specs.declared.script_version.ScriptVersion.TheVariants.{One, Two, Three}
 use Rattle.project_edits.specs.declared.edit.Edit.{Edit}
 use Rattle.project_edits.specs.declared.edit.Edit.TheVariants as edit
 use Rattle.project_edits.specs.Accepts.{unless}
 use Rattle.project_edits.specs.Eds.{IsEds}
 use Rattle.project_edits.specs.Edits.{IsEdit, IsManager, IsSetting}
 use Rattle.project_edits.specs.Forms.{is_bit_rate, is_sync_counter, is_time}
-use Rattle.project_edits.specs.Versions.{is_one}
+use Rattle.project_edits.specs.Versions.{is_one, is_three}
 use Rattle.co_dict.specs.Places.{place_cmp}
 use Rattle.co_dict.proofs.PlaceLemmas.{places_exact, places_total}
 use Rattle.node_parameters.specs.Params.{Texts as Params, is_full_for}
@@ -36,14 +37,14 @@ use Rattle.co_project.specs.declared.node.Node.{Node}
 use Rattle.co_project.specs.Tables.{Texts, Nodes, name_taken, has_no_room, is_used, is_named, is_of}
 use Rattle.co_project.specs.Tables.{is_of_known, has_mandatory, put_node, node_after_put, with_need, with_param}
 use Rattle.co_project.specs.Tables.{without_param}
-use Rattle.co_project.specs.Project.{Content, first, accept, with_nodes}
+use Rattle.co_project.specs.Project.{Content, first, accept, receive_by, with_nodes}
 use Rattle.base.specs.Tables.{Each}
 use Rattle.co_project.specs.Sound.{AreTexts, AreParams, IsNodeOf, IsMessageOf, IsEventOf, IsSound}
 use Rattle.base.proofs.EachLemmas.{each_empty, each_fails, each_found, each_put, each_removed, each_weaker, fewer}
 use Rattle.base.proofs.EachLemmas.{known_after_put, none_pass, room_for}
 use Rattle.co_project.proofs.KeepsMessages.{as_many, message_sent, messages_changed, messages_with_node}
 use Rattle.co_project.proofs.KeepsMessages.{messages_without_node, sink_kept, source_kept, start_kept, still_there}
-use Rattle.co_project.proofs.KeepsMessages.{unsink_kept, unsource_kept}
+use Rattle.co_project.proofs.KeepsMessages.{messages_in_version, receive_kept, unreceive_kept, unsink_kept, unsource_kept}
 
 -- ---- texts
 
@@ -261,15 +262,16 @@ still_fits nodes One none id node there =
     each_found (λ k v. v.mandatory ≡ false) nodes id node
     (each_fails nat_cmp_total exact_unsigned (λ e. e.1.mandatory) nodes none) there
 still_fits nodes Two none id node there = refl
+still_fits nodes Three none id node there = refl
 
 -- ---- one edit
 
 module _ (p : Content) (sound : IsSound p) where
-  -- another version, which fits the nodes
+  -- another version, which fits the nodes and the messages
   version_keeps : (version : ScriptVersion) → (is_one version && has_mandatory p.nodes) ≡ false
-      → IsSound (record p { version = version })
+      → (not (is_three version) && have_receives p.messages) ≡ false → IsSound (record p { version = version })
   unfolding IsNodeOf IsMessageOf IsEventOf
-  version_keeps version h = record {
+  version_keeps version h fits = record {
     bitrate = sound.bitrate;
     horizon = sound.horizon;
     manager = sound.manager;
@@ -277,7 +279,7 @@ module _ (p : Content) (sound : IsSound p) where
     texts = sound.texts;
     nodes = each_weaker (IsNodeOf p) (IsNodeOf (record p { version = version })) p.nodes node_of_it sound.nodes;
     count = sound.count;
-    messages = sound.messages;
+    messages = messages_in_version p version fits sound.messages;
     events = sound.events;
   }
     where
@@ -428,10 +430,11 @@ module _ (p : Content) (sound : IsSound p) where
       (other_need p id node mandatory (found_node p sound id node found) two)
 
   -- a node that no message concerns and no event is of goes
-  drop_node_keeps : (id : ℕ) → is_of_messages id p.messages ≡ false → is_named p.events id ≡ false
+  drop_node_keeps : (id : ℕ) → is_of_messages id p.messages ≡ false → are_received id p.messages ≡ false
+      → is_named p.events id ≡ false
       → IsSound (record p { nodes = remove p.nodes id })
   unfolding IsNodeOf IsMessageOf IsEventOf
-  drop_node_keeps id apart unnamed = record {
+  drop_node_keeps id apart unreceived unnamed = record {
     bitrate = sound.bitrate;
     horizon = sound.horizon;
     manager = sound.manager;
@@ -440,7 +443,7 @@ module _ (p : Content) (sound : IsSound p) where
     nodes = each_removed nat_cmp_total exact_unsigned (IsNodeOf without) p.nodes id (each_weaker (IsNodeOf p)
         (IsNodeOf without) p.nodes (λ n node there. node_without n node) sound.nodes);
     count = sound.count;
-    messages = messages_without_node p id sound.messages apart;
+    messages = messages_without_node p id sound.messages apart unreceived;
     events = each_weaker (IsEventOf p) (IsEventOf without) p.events event_without sound.events;
   }
     where
@@ -553,6 +556,14 @@ module _ (p : Content) (sound : IsSound p) where
   sink_keeps name position node place h there = changed_keeps name (with_sink position node place)
       (sink_kept p name position node place h.1 h.2 h.3 there)
 
+  -- it gets a receive of a node that is there, in a version that knows receives
+  receive_keeps : (name : List ℕ) (node rpdo event : ℕ) → IsEdit (edit.Receive name node rpdo event)
+      → is_three p.version ≡ true → contains_key p.nodes node ≡ true
+      → IsSound (record p { messages = with_changed (with_receive node (receive_by rpdo event)) p.messages name })
+  unfolding IsEdit
+  receive_keeps name node rpdo event h three there = changed_keeps name (with_receive node (receive_by rpdo event))
+      (receive_kept p name node (receive_by rpdo event) (h.1, h.2, h.3) (three, there))
+
   -- a node of the project gets other parameters
   params_keep : (id : ℕ) (node : Node) (params : Params) → get p.nodes id ≡ Some node → AreParams params
       → IsSound (record p { nodes = insert p.nodes id (record node { params = params }) })
@@ -625,8 +636,10 @@ first_sound = record {
 -- an edit that is taken leaves a project that keeps to it
 pub edits_keep_sound : (p q : Content) (edit : Edit) → IsSound p → IsEdit edit → accept p edit ≡ Ok q → IsSound q
 unfolding accept IsEdit
-edits_keep_sound p q (edit.Version version) sound h taken = let e = passed _ _ _ q taken
-    in subst IsSound e.1 (version_keeps p sound version e.0)
+edits_keep_sound p q (edit.Version version) sound h taken =
+    let e = passed _ _ _ q taken in
+    let fits = or_parts (is_one version && has_mandatory p.nodes) (not (is_three version) && have_receives p.messages) e.0 in
+    subst IsSound e.1 (version_keeps p sound version fits.0 fits.1)
 edits_keep_sound p q (edit.Bitrate rate) sound h taken = subst IsSound (the_same _ q taken)
     (bitrate_keeps p sound rate h)
 edits_keep_sound p q (edit.Horizon time) sound h taken = subst IsSound (the_same _ q taken)
@@ -645,8 +658,9 @@ edits_keep_sound p q (edit.Need id mandatory) sound h taken = let e = passed_bot
     in subst IsSound e.2 (need_keeps p sound id mandatory e.0 (get p.nodes id) refl (not-false _ e.1))
 edits_keep_sound p q (edit.DropNode id) sound h taken =
     let e = passed_both _ _ _ _ _ q taken in
-    let apart = or_parts (is_of_messages id p.messages) (is_named p.events id) e.1 in
-    subst IsSound e.2 (drop_node_keeps p sound id apart.0 apart.1)
+    let apart = or_parts (is_of_messages id p.messages || are_received id p.messages) (is_named p.events id) e.1 in
+    let unnamed = or_parts (is_of_messages id p.messages) (are_received id p.messages) apart.0 in
+    subst IsSound e.2 (drop_node_keeps p sound id unnamed.0 unnamed.1 apart.1)
 edits_keep_sound p q (edit.Param id index sub text) sound h taken =
     param_keeps p q sound id (index, sub) text (get p.nodes id) refl h.1 taken
 edits_keep_sound p q (edit.Unparam id index sub) sound h taken = unparam_keeps p q sound id (index, sub)
@@ -667,6 +681,13 @@ edits_keep_sound p q (edit.Sink name position node index sub) sound h taken =
     subst IsSound e.1 (sink_keeps p sound name position node (index, sub) h (not-false _ known.1))
 edits_keep_sound p q (edit.Unsink name position node) sound h taken = let e = passed _ _ _ q taken
     in subst IsSound e.1 (changed_keeps p sound name (without_sink position node) (unsink_kept p name position node))
+edits_keep_sound p q (edit.Receive name node rpdo event) sound h taken =
+    let e = passed_both _ _ _ _ _ q taken in
+    let known = or_parts (not (contains_key p.messages name)) (not (contains_key p.nodes node)) e.1 in
+    subst IsSound e.2 (receive_keeps p sound name node rpdo event h (not-false _ e.0) (not-false _ known.1))
+edits_keep_sound p q (edit.Unreceive name node) sound h taken =
+    let e = passed_both (not (is_three p.version)) (not (has_receive p.messages name node)) Range Unknown _ q taken in
+    subst IsSound e.2 (changed_keeps p sound name (without_receive node) (unreceive_kept p name node))
 edits_keep_sound p q (edit.Event number e) sound h taken = let t = passed _ _ _ q taken
     in subst IsSound t.1 (event_keeps p sound number e h (not-false _ t.0))
 edits_keep_sound p q (edit.DropEvent number) sound h taken = let e = passed _ _ _ q taken

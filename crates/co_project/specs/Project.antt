@@ -12,8 +12,10 @@ use Rattle.project_edits.specs.declared.script_version.ScriptVersion.TheVariants
 use Rattle.project_edits.specs.declared.edit.Edit.{Edit}
 use Rattle.project_edits.specs.declared.edit.Edit.TheVariants as edit
 use Rattle.project_edits.specs.Accepts.{unless}
-use Rattle.project_edits.specs.Versions.{is_one}
-use Rattle.project_messages.specs.Messages.{Named, with_changed, is_of_messages, has_sink, has_source, is_full_for}
+use Rattle.project_edits.specs.Versions.{is_one, is_three}
+use Rattle.project_messages.specs.declared.receive.Receive.{Receive}
+use Rattle.project_messages.specs.Messages.{Named, with_changed, is_of_messages, has_receive, has_sink, has_source}
+use Rattle.project_messages.specs.Messages.{are_received, have_receives, is_full_for, with_receive, without_receive}
 use Rattle.project_messages.specs.Messages.{with_message, with_sink, with_source, with_start, without_sink, without_source}
 use Rattle.co_project.specs.declared.node.Node.{Node}
 use Rattle.co_project.specs.Tables.{Texts, Nodes, has_no_room, name_taken, is_used, is_named, is_of_known, adds_param}
@@ -73,10 +75,14 @@ abbrev pub with_nodes : Content → Result Nodes EditFault → Result Content Ed
 with_nodes p (Ok nodes) = Ok (record p { nodes = nodes })
 with_nodes p (Err fault) = Err fault
 
+-- by an RPDO, within an event time
+abbrev pub receive_by : ℕ → ℕ → Receive
+receive_by rpdo event = record { rpdo = rpdo; event = event }
+
 -- THE EDIT: the project that an edit makes of a project, or the first fault that applies
 unfoldable pub accept : Content → Edit → Result Content EditFault
 accept p (edit.Version version) =
-    unless ((is_one version && has_mandatory p.nodes, InUse) ∷ [])
+    unless ((is_one version && has_mandatory p.nodes || not (is_three version) && have_receives p.messages, InUse) ∷ [])
     (record p { version = version })
 accept p (edit.Bitrate rate) = Ok (record p { bitrate = rate })
 accept p (edit.Horizon time) = Ok (record p { horizon = time })
@@ -97,8 +103,8 @@ accept p (edit.Need id mandatory) =
     unless ((is_one p.version, Range) ∷ (not (contains_key p.nodes id), Unknown) ∷ [])
     (record p { nodes = put_need p.nodes id mandatory })
 accept p (edit.DropNode id) =
-    unless ((not (contains_key p.nodes id), Unknown) ∷ (is_of_messages id p.messages || is_named p.events id, InUse)
-    ∷ [])
+    unless ((not (contains_key p.nodes id), Unknown)
+    ∷ (is_of_messages id p.messages || are_received id p.messages || is_named p.events id, InUse) ∷ [])
     (record p { nodes = remove p.nodes id })
 accept p (edit.Param id index sub text) = with_nodes p (put_param p.nodes id (index, sub) text)
 accept p (edit.Unparam id index sub) = with_nodes p (drop_param p.nodes id (index, sub))
@@ -123,6 +129,13 @@ accept p (edit.Sink name position node index sub) =
 accept p (edit.Unsink name position node) =
     unless ((not (has_sink p.messages name position node), Unknown) ∷ [])
     (record p { messages = with_changed (without_sink position node) p.messages name })
+accept p (edit.Receive name node rpdo event) =
+    unless ((not (is_three p.version), Range)
+    ∷ (not (contains_key p.messages name) || not (contains_key p.nodes node), Unknown) ∷ [])
+    (record p { messages = with_changed (with_receive node (receive_by rpdo event)) p.messages name })
+accept p (edit.Unreceive name node) =
+    unless ((not (is_three p.version), Range) ∷ (not (has_receive p.messages name node), Unknown) ∷ [])
+    (record p { messages = with_changed (without_receive node) p.messages name })
 accept p (edit.Event number e) =
     unless ((not (is_of_known p.nodes e.event), Unknown) ∷ [])
     (record p { events = insert p.events number e })
@@ -130,8 +143,8 @@ accept p (edit.DropEvent number) =
     unless ((not (contains_key p.events number), Unknown) ∷ [])
     (record p { events = remove p.events number })
 
--- the edit gives a text, a node, a parameter, a message, a source, a sink or an event where there is none: no other
--- takes memory
+-- the edit gives a text, a node, a parameter, a message, a source, a sink, a receive or an event where there is none: no
+-- other takes memory
 unfoldable pub adds : Content → Edit → Bool
 adds p (edit.Eds name text) = not (contains_key p.texts name)
 adds p (edit.Node id name eds) = not (contains_key p.nodes id)
@@ -139,6 +152,7 @@ adds p (edit.Param id index sub text) = adds_param p.nodes id (index, sub)
 adds p (edit.Message name m) = not (contains_key p.messages name)
 adds p (edit.Source name position index sub) = not (has_source p.messages name position)
 adds p (edit.Sink name position node index sub) = not (has_sink p.messages name position node)
+adds p (edit.Receive name node rpdo event) = not (has_receive p.messages name node)
 adds p (edit.Event number e) = not (contains_key p.events number)
 adds p others = false
 

@@ -5,10 +5,11 @@ use Rattle.base.specs.Tables.{Each}
 use Rattle.co_scenario.specs.declared.timed_event.TimedEvent.{TimedEvent}
 use Rattle.project_edits.specs.Forms.{is_name, is_bit_rate, is_time, is_event_number, is_sync_counter}
 use Rattle.cia301.specs.Limits.{is_node_number}
-use Rattle.project_edits.specs.Versions.{is_one}
+use Rattle.project_edits.specs.Versions.{is_one, is_three}
 use Rattle.project_edits.specs.Eds.{IsEds}
 use Rattle.project_edits.specs.Edits.{IsManager, IsSetting, IsEvent}
 use Rattle.project_messages.specs.declared.linked.Linked.{Linked}
+use Rattle.project_messages.specs.declared.receive.Receive.{Receive}
 use Rattle.project_messages.specs.Messages.{IsLinked}
 use Rattle.node_parameters.specs.Params.{Texts as Params}
 use Rattle.co_project.specs.declared.node.Node.{Node}
@@ -33,11 +34,16 @@ IsNodeOf p id node =
     × AreParams node.params
     × ((is_one p.version && node.mandatory) ≡ false)
 
--- a message of the project: its sender and the nodes of its sinks are there
+-- a receive of a message of the project: there are such in version 3 alone, and its node is there
+abbrev pub IsReceiveOf : Content → ℕ × Receive → Type 0
+IsReceiveOf p r = (is_three p.version ≡ true) × (contains_key p.nodes r.0 ≡ true)
+
+-- a message of the project: its sender, the nodes of its sinks and those of its receives are there
 unfoldable pub IsMessageOf : Content → List ℕ → Linked → Type 0
 IsMessageOf p name linked =
     (is_name name ≡ true) × IsLinked linked
     × (contains_key p.nodes linked.message.node ≡ true) × All (λ s. contains_key p.nodes s.0.1 ≡ true) linked.sinks
+    × All (IsReceiveOf p) linked.receives
 
 -- an event of the project: its node is there
 unfoldable pub IsEventOf : Content → ℕ → TimedEvent → Type 0

@@ -11,7 +11,7 @@ use crate::texts::Texts;
 use base::{Octets, Shared};
 use co_scenario::{Script, TimedEvent};
 use project_edits::{Edit, EditFault, ManagerSettings, ScriptVersion};
-use project_messages::Messages;
+use project_messages::{Messages, Receive};
 use std::alloc::{AllocError, Global};
 use std::marker::Model;
 
@@ -174,18 +174,29 @@ impl Contents {
                 position,
                 node,
             } => self.drop_sink(message.as_slice(), position, node),
+            Edit::Receive {
+                message,
+                node,
+                rpdo,
+                event,
+            } => self.put_receive(message.as_slice(), node, Receive { rpdo, event }),
+            Edit::Unreceive { message, node } => self.drop_receive(message.as_slice(), node),
             Edit::Event { number, event } => self.put_event(number, event),
             Edit::DropEvent { number } => self.drop_event(number),
         }
     }
 
-    /// Gives the script another version: version 1 only where no node is mandatory.
+    /// Gives the script another version: version 1 only where no node is mandatory, and version 3 alone where
+    /// a message has a receive.
     #[tactic(auto, unfolding(crate::specs::Project::accept, crate::specs::Project::adds))]
     fn set_version(&mut self, version: ScriptVersion) -> Result<(), EditFault>
         ensures accepts { Accepts self.old self.new result (accept self.old (edit.Version version)) }
         ensures memory { IsErrOf result EditFault.Memory → IsTrue (adds self.old (edit.Version version)) }
     {
         if version.is_one() && self.nodes.have_mandatory() {
+            return Err(EditFault::InUse);
+        }
+        if !version.is_three() && self.messages.have_receives() {
             return Err(EditFault::InUse);
         }
         self.version = version;
@@ -275,7 +286,10 @@ impl Contents {
         if !self.nodes.contains(id) {
             return Err(EditFault::Unknown);
         }
-        if self.messages.concern(id) || is_named(&self.events, id) {
+        if self.messages.concern(id)
+            || self.messages.are_received(id)
+            || is_named(&self.events, id)
+        {
             return Err(EditFault::InUse);
         }
         self.nodes.remove(id);

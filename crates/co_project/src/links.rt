@@ -8,10 +8,10 @@ ghost use Rattle.co_project.specs.Project.{accept, adds};
 use crate::contents::Contents;
 use base::Octets;
 use project_edits::EditFault;
-use project_messages::Message;
+use project_messages::{Message, Receive};
 
 impl Contents {
-    /// Gives a name a message. A known one keeps its SYNC start value, its sources and its sinks.
+    /// Gives a name a message. A known one keeps its SYNC start value, its sources, its sinks and its receives.
     #[tactic(auto, unfolding(crate::specs::Project::accept, crate::specs::Project::adds, project_edits::specs::Edits::IsEdit))]
     pub fn put_message(&mut self, name: Octets, message: Message) -> Result<(), EditFault>
         requires { IsEdit (edit.Message name message) }
@@ -42,7 +42,7 @@ impl Contents {
         Ok(())
     }
 
-    /// Takes a message away, and its sources and sinks with it.
+    /// Takes a message away, and its sources, sinks and receives with it.
     #[tactic(auto, unfolding(crate::specs::Project::accept, crate::specs::Project::adds))]
     pub fn drop_message(&mut self, name: &[u8]) -> Result<(), EditFault>
         ensures accepts { Accepts self.old self.new result (accept self.old (edit.DropMessage name.now)) }
@@ -128,6 +128,46 @@ impl Contents {
             return Err(EditFault::Unknown);
         }
         self.messages.remove_sink(name, position, node);
+        Ok(())
+    }
+
+    /// Gives a message a receive of a node, in place of the one that the node has, where the version knows
+    /// receives.
+    #[tactic(auto, unfolding(crate::specs::Project::accept, crate::specs::Project::adds, project_edits::specs::Edits::IsEdit))]
+    pub fn put_receive(&mut self, name: &[u8], node: u8, receive: Receive) -> Result<(), EditFault>
+        requires { IsEdit (edit.Receive name.now node receive.rpdo receive.event) }
+        ensures accepts { Accepts self.old self.new result
+            (accept self.old (edit.Receive name.now node receive.rpdo receive.event)) }
+        ensures memory { IsErrOf result EditFault.Memory
+            → IsTrue (adds self.old (edit.Receive name.now node receive.rpdo receive.event)) }
+    {
+        if !self.version.is_three() {
+            return Err(EditFault::Range);
+        }
+        if !self.nodes.contains(node) {
+            return Err(EditFault::Unknown);
+        }
+        let known = self.messages.link_receive(name, node, receive)?;
+        if known {
+            Ok(())
+        } else {
+            Err(EditFault::Unknown)
+        }
+    }
+
+    /// Takes the receive of a node of a message away, where the version knows receives.
+    #[tactic(auto, unfolding(crate::specs::Project::accept, crate::specs::Project::adds))]
+    pub fn drop_receive(&mut self, name: &[u8], node: u8) -> Result<(), EditFault>
+        ensures accepts { Accepts self.old self.new result (accept self.old (edit.Unreceive name.now node)) }
+        ensures memory { IsErrOf result EditFault.Memory → IsTrue (adds self.old (edit.Unreceive name.now node)) }
+    {
+        if !self.version.is_three() {
+            return Err(EditFault::Range);
+        }
+        if !self.messages.has_receive(name, node) {
+            return Err(EditFault::Unknown);
+        }
+        self.messages.remove_receive(name, node);
         Ok(())
     }
 }

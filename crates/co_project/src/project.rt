@@ -54,7 +54,7 @@ impl Project {
     }
 
     /// Another project that is equal and shares the texts of EDS. Takes time and memory by the number
-    /// of texts, nodes, parameters, messages, sources, sinks and events, and the length of their names
+    /// of texts, nodes, parameters, messages, sources, sinks, receives and events, and the length of their names
     /// and values, and not by the length of the texts of EDS. Want of memory is the only error.
     pub fn copy(&self, alloc: Global) -> Result<Project, AllocError>
         ensures { IfOk result (λ project. project ≡ self.now) }
@@ -74,16 +74,18 @@ impl Project {
 
     /// Takes an edit, or refuses it with the first fault that applies and changes nothing.
     ///
-    /// Range: a node is to be mandatory or optional in version 1. Unknown: an EDS, a node, a parameter, a message, a source, a sink or an event that is named
-    /// isn't there. Taken: the number is the manager's or a node's, or the name another node's.
-    /// InUse: a node is mandatory where version 1 is asked, a node still uses the EDS, a message is sent or taken by the node, or an event is of
-    /// it. Limit: a 65th text, a 4,097th parameter of a node, or a 1,025th message. Memory can come
-    /// in place of each where the edit gives a text, a node, a parameter, a message, a source, a
-    /// sink or an event where there is none, and changes nothing either.
+    /// Range: a node is to be mandatory or optional in version 1, or a receive comes or goes in version 1
+    /// or 2. Unknown: an EDS, a node, a parameter, a message, a source, a sink, a receive or an event that is
+    /// named isn't there. Taken: the number is the manager's or a node's, or the name another node's. InUse: a
+    /// node is mandatory where version 1 is asked, or a message has a receive where version 1 or 2 is, a node
+    /// still uses the EDS, a message is sent or taken by the node or has a receive of it, or an event is of
+    /// it. Limit: a 65th text, a 4,097th parameter of a node, or a 1,025th message. Memory can come in place
+    /// of each where the edit gives a text, a node, a parameter, a message, a source, a sink, a receive or an
+    /// event where there is none, and changes nothing either.
     ///
-    /// `version`, `drop-eds` and `node` take time by the number of nodes, `drop-node` by that of messages, sinks,
-    /// events and the node's parameters, `drop-message` by that of its sources and sinks, every other
-    /// edit by the logarithm of its table.
+    /// `drop-eds` and `node` take time by the number of nodes, `version` by that of nodes and messages,
+    /// `drop-node` by that of messages, sinks, receives, events and the node's parameters, `drop-message` by
+    /// that of its sources, sinks and receives, every other edit by the logarithm of its table.
     pub fn accept(&mut self, command: Command) -> Result<(), EditFault>
         ensures accepts { Accepts self.old self.new result (accept self.old command) }
         ensures memory { IsErrOf result EditFault.Memory → IsTrue (adds self.old command) }
@@ -158,7 +160,7 @@ impl Project {
         self.contents.nodes.iter()
     }
 
-    /// The messages. Their senders and the nodes of their sinks are there.
+    /// The messages. Their senders and the nodes of their sinks and receives are there.
     pub fn messages(&self) -> &Messages
         ensures { result.now ≡ self.now.messages }
     {

@@ -15,8 +15,10 @@ use Rattle.diag_lines.specs.declared.code.Code.TheVariants.{TpdoTaken, TooManyBi
 use Rattle.diag_lines.specs.declared.code.Code.TheVariants.{NoDummy, BadIdentifier, NoIdentifier, ReservedType}
 use Rattle.diag_lines.specs.declared.code.Code.TheVariants.{SharedIdentifier, NotModelled, RemoteType, NoSync}
 use Rattle.diag_lines.specs.declared.code.Code.TheVariants.{UnfitConsumer, SkippedLine, OtherCounter, UnreachedStart}
+use Rattle.diag_lines.specs.declared.code.Code.TheVariants.{UnplannedTpdo, UnplannedRpdo, BesideLimits, UselessReceive}
 use Rattle.diag_lines.specs.declared.subject.Subject.{Subject}
-use Rattle.diag_lines.specs.declared.subject.Subject.TheVariants.{Cob, Default, Eds, Event, Message, Node, Param}
+use Rattle.diag_lines.specs.declared.subject.Subject.TheVariants.{Cob, Default, Eds, Event, Limit, Message, Node, Param}
+use Rattle.diag_lines.specs.declared.subject.Subject.TheVariants.{Receive, Rpdo, Tpdo}
 use Rattle.diag_lines.specs.declared.diag.Diag.{Diag}
 use Rattle.diag_lines.specs.contracts.subject.SubjectOrd.TheImpl as subject_ord
 use Rattle.diag_lines.specs.contracts.diag.DiagOrd.TheImpl as diag_ord
@@ -36,6 +38,8 @@ subject_same (Default a b c) (Default d e f) = ap (λ o. ordering_then (nat_cmp 
     (then_equal (nat_cmp c f))
 subject_same (Eds a m) (Eds b n) = ap (λ o. ordering_then (slice_cmp nat_cmp a b) o) (then_equal (nat_cmp m n))
 subject_same (Event a) (Event b) = then_equal (nat_cmp a b)
+subject_same (Limit a b c) (Limit d e f) = ap (λ o. ordering_then (nat_cmp a d) (ordering_then (nat_cmp b e) o))
+    (then_equal (nat_cmp c f))
 subject_same (Message a) (Message b) = then_equal (slice_cmp nat_cmp a b)
 subject_same (Node a None) (Node b None) = refl
 subject_same (Node a None) (Node b (Some n)) = refl
@@ -43,6 +47,9 @@ subject_same (Node a (Some m)) (Node b None) = refl
 subject_same (Node a (Some m)) (Node b (Some n)) = ap (λ o. ordering_then (nat_cmp a b) o) (then_equal (nat_cmp m n))
 subject_same (Param a b c) (Param d e f) = ap (λ o. ordering_then (nat_cmp a d) (ordering_then (nat_cmp b e) o))
     (then_equal (nat_cmp c f))
+subject_same (Receive a m) (Receive b n) = ap (λ o. ordering_then (slice_cmp nat_cmp a b) o) (then_equal (nat_cmp m n))
+subject_same (Rpdo a m) (Rpdo b n) = ap (λ o. ordering_then (nat_cmp a b) o) (then_equal (nat_cmp m n))
+subject_same (Tpdo a m) (Tpdo b n) = ap (λ o. ordering_then (nat_cmp a b) o) (then_equal (nat_cmp m n))
 subject_same a b = refl
 
 -- the order of the type is that of the words
@@ -60,13 +67,14 @@ then_both Less p e = cc
 then_both Equal p e = (refl, e)
 then_both Greater p e = cc
 
--- the codes by their numbers
+-- the codes by their numbers; 25 and 27 are those of none
 all_codes : List Code
 all_codes =
     NoEntry ∷ Unreadable ∷ OutsideLimits ∷ NotWritable ∷ NoObjects ∷ TpdoTaken ∷ TooManyBits ∷ NotMappable ∷ Mismatched
     ∷ NoRpdo
     ∷ NoDummy ∷ BadIdentifier ∷ NoIdentifier ∷ ReservedType ∷ SharedIdentifier ∷ NotModelled ∷ RemoteType ∷ NoSync
-    ∷ UnfitConsumer ∷ SkippedLine ∷ OtherCounter ∷ UnreachedStart ∷ []
+    ∷ UnfitConsumer ∷ SkippedLine ∷ OtherCounter ∷ UnreachedStart ∷ UnplannedTpdo ∷ UnplannedRpdo ∷ NoEntry
+    ∷ BesideLimits ∷ NoEntry ∷ UselessReceive ∷ []
 
 its_code : (a : Code) → get_or all_codes (number_of a - 1) NoEntry ≡ a
 unfolding number_of all_codes
@@ -91,6 +99,8 @@ subject_exact (Default a b c) (Default d e f) h = let same = three_exact a b c d
 subject_exact (Eds a m) (Eds b n) e = let both = then_both (slice_cmp nat_cmp a b) (nat_cmp m n) e
     in λ i. Eds (exact_bytes a b both.0 i) (exact_unsigned m n both.1 i)
 subject_exact (Event a) (Event b) e = ap Event (exact_unsigned a b e)
+subject_exact (Limit a b c) (Limit d e f) h = let same = three_exact a b c d e f h
+    in λ i. Limit (same.0 i) (same.1 i) (same.2 i)
 subject_exact (Message a) (Message b) e = ap Message (exact_bytes a b e)
 subject_exact (Node a None) (Node b None) e = let both = then_both (nat_cmp a b) Equal e
     in λ i. Node (exact_unsigned a b both.0 i) None
@@ -100,6 +110,12 @@ subject_exact (Node a (Some m)) (Node b (Some n)) e = let both = then_both (nat_
     in λ i. Node (exact_unsigned a b both.0 i) (Some (exact_unsigned m n both.1 i))
 subject_exact (Param a b c) (Param d e f) h = let same = three_exact a b c d e f h
     in λ i. Param (same.0 i) (same.1 i) (same.2 i)
+subject_exact (Receive a m) (Receive b n) e = let both = then_both (slice_cmp nat_cmp a b) (nat_cmp m n) e
+    in λ i. Receive (exact_bytes a b both.0 i) (exact_unsigned m n both.1 i)
+subject_exact (Rpdo a m) (Rpdo b n) e = let both = then_both (nat_cmp a b) (nat_cmp m n) e
+    in λ i. Rpdo (exact_unsigned a b both.0 i) (exact_unsigned m n both.1 i)
+subject_exact (Tpdo a m) (Tpdo b n) e = let both = then_both (nat_cmp a b) (nat_cmp m n) e
+    in λ i. Tpdo (exact_unsigned a b both.0 i) (exact_unsigned m n both.1 i)
 subject_exact a b e = cc
 
 pub diag_exact : CmpEqualImpliesEq diag_cmp

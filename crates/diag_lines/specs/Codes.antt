@@ -1,11 +1,12 @@
--- The codes of diagnostics and their numbers (this profile's own): up to 16 errors, from 17 on warnings.
-use Rattle.std.specs.Prelude.{ℕ}
+-- The codes of diagnostics and their numbers (this profile's own); those of 25 and 27 are given to none.
+use Rattle.std.specs.Prelude.{ℕ, ◌==◌, ◌||◌, nat_le, Bool}
 use Rattle.diag_lines.specs.declared.code.Code.{Code}
 use Rattle.diag_lines.specs.declared.code.Code.TheVariants.{NoEntry, Unreadable, OutsideLimits, NotWritable, NoObjects}
 use Rattle.diag_lines.specs.declared.code.Code.TheVariants.{TpdoTaken, TooManyBits, NotMappable, Mismatched, NoRpdo}
 use Rattle.diag_lines.specs.declared.code.Code.TheVariants.{NoDummy, BadIdentifier, NoIdentifier, ReservedType}
 use Rattle.diag_lines.specs.declared.code.Code.TheVariants.{SharedIdentifier, NotModelled, RemoteType, NoSync}
 use Rattle.diag_lines.specs.declared.code.Code.TheVariants.{UnfitConsumer, SkippedLine, OtherCounter, UnreachedStart}
+use Rattle.diag_lines.specs.declared.code.Code.TheVariants.{UnplannedTpdo, UnplannedRpdo, BesideLimits, UselessReceive}
 
 unfoldable pub number_of : Code → ℕ
 number_of NoEntry = 1
@@ -30,3 +31,11 @@ number_of UnfitConsumer = 19
 number_of SkippedLine = 20
 number_of OtherCounter = 21
 number_of UnreachedStart = 22
+number_of UnplannedTpdo = 23
+number_of UnplannedRpdo = 24
+number_of BesideLimits = 26
+number_of UselessReceive = 28
+
+-- which are errors: those of up to 16, and 26
+abbrev pub is_error : Code → Bool
+is_error code = nat_le (number_of code) 16 || number_of code == 26

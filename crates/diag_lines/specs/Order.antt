@@ -7,7 +7,8 @@ use Rattle.std.specs.Ordering.{nat_cmp, ordering_then}
 use Rattle.std.specs.Cmp.Lexicographic.{slice_cmp}
 use Rattle.diag_lines.specs.Codes.{number_of}
 use Rattle.diag_lines.specs.declared.subject.Subject.{Subject}
-use Rattle.diag_lines.specs.declared.subject.Subject.TheVariants.{Cob, Default, Eds, Event, Message, Node, Param}
+use Rattle.diag_lines.specs.declared.subject.Subject.TheVariants.{Cob, Default, Eds, Event, Limit, Message, Node, Param}
+use Rattle.diag_lines.specs.declared.subject.Subject.TheVariants.{Receive, Rpdo, Tpdo}
 use Rattle.diag_lines.specs.declared.diag.Diag.{Diag}
 
 -- a word of a subject
@@ -32,9 +33,13 @@ words_of (Cob id) = Name (codes "cob") ∷ Number id ∷ []
 words_of (Default node index sub) = Name (codes "default") ∷ Number node ∷ Number index ∷ Number sub ∷ []
 words_of (Eds name line) = Name (codes "eds") ∷ Name name ∷ Number line ∷ []
 words_of (Event number) = Name (codes "event") ∷ Number number ∷ []
+words_of (Limit node index sub) = Name (codes "limit") ∷ Number node ∷ Number index ∷ Number sub ∷ []
 words_of (Message name) = Name (codes "message") ∷ Name name ∷ []
 words_of (Node node sub) = Name (codes "node") ∷ Number node ∷ word_of sub
 words_of (Param node index sub) = Name (codes "param") ∷ Number node ∷ Number index ∷ Number sub ∷ []
+words_of (Receive name node) = Name (codes "receive") ∷ Name name ∷ Number node ∷ []
+words_of (Rpdo node number) = Name (codes "rpdo") ∷ Number node ∷ Number number ∷ []
+words_of (Tpdo node number) = Name (codes "tpdo") ∷ Number node ∷ Number number ∷ []
 
 unfoldable pub diag_cmp : Diag → Diag → Ordering
 diag_cmp a b = ordering_then (nat_cmp (number_of a.code) (number_of b.code))

@@ -1,15 +1,15 @@
 //! The code of a diagnostic.
-ghost use Rattle.std.specs.Prelude.{◌≡◌, nat_eq, nat_le};
+ghost use Rattle.std.specs.Prelude.{◌≡◌, nat_eq};
 ghost use Rattle.std.proofs.Common.{rules};
 ghost use Rattle.std.specs.Cmp as Cmp;
 ghost use Rattle.std.specs.Cmp.Rules.{comparing};
 ghost use Rattle.std.specs.Ordering.{nat_cmp, on, as_partial_cmp};
-ghost use Rattle.diag_lines.specs.Codes.{number_of};
+ghost use Rattle.diag_lines.specs.Codes.{is_error, number_of};
 
 use std::cmp::Ordering;
 
 /// What is wrong (CiA 301 and 306 say what may be; the codes are this profile's own), in the order
-/// of the numbers. The first 16 are errors, the others warnings.
+/// of the numbers. Those of up to 16 are errors, and 26; the others are warnings.
 #[derive(Clone, Copy, Debug)]
 pub enum Code {
     /// 1: a parameter or an event sets an entry that the node's device doesn't have.
@@ -59,10 +59,18 @@ pub enum Code {
     /// 22: the transmission type of a message counts SYNCs, and the counter of the network's SYNC doesn't
     /// reach the message's SYNC start value.
     UnreachedStart,
+    /// 23: a TPDO that no message uses is on by default and can't be switched off: it is sent beside the plan.
+    UnplannedTpdo,
+    /// 24: an RPDO that no message uses is on by default and can't be switched off, and takes a message.
+    UnplannedRpdo,
+    /// 26: a write that the plan gives a node is below its entry's low limit or above the high one.
+    BesideLimits,
+    /// 28: a receive is of a node that doesn't take its message, or of an event time that its RPDO can't have.
+    UselessReceive,
 }
 
 impl Code {
-    /// Its number, from 1 to 22.
+    /// Its number, from 1 to 28.
     #[tactic(auto, unfolding(crate::specs::Codes::number_of))]
     pub fn number(self) -> u8
         ensures { result ≡ number_of self }
@@ -90,14 +98,18 @@ impl Code {
             Code::SkippedLine => 20,
             Code::OtherCounter => 21,
             Code::UnreachedStart => 22,
+            Code::UnplannedTpdo => 23,
+            Code::UnplannedRpdo => 24,
+            Code::BesideLimits => 26,
+            Code::UselessReceive => 28,
         }
     }
 
     /// Whether it is an error and not a warning.
     pub fn is_error(self) -> bool
-        ensures { result ≡ nat_le (number_of self) 16 }
+        ensures { result ≡ is_error self }
     {
-        self.number() <= 16
+        self.number() <= 16 || self.number() == 26
     }
 }
 

@@ -70,6 +70,15 @@ fn write_place(
     Ok(())
 }
 
+/// Writes a space, and a node and the number of a PDO as words.
+fn write_pdo(out: &mut Vec<u8>, alloc: Global, node: u8, number: u16) -> Result<(), AllocError>
+    ensures { OnOk result (out.new.items ≡ out.old.items ++ byte " " ∷ decimal node ++ byte " " ∷ decimal number) }
+{
+    write_number(out, alloc, u32::from(node))?;
+    write_number(out, alloc, u32::from(number))?;
+    Ok(())
+}
+
 /// Writes the words of a subject, each after a space.
 fn write_subject(out: &mut Vec<u8>, alloc: Global, subject: &Subject) -> Result<(), AllocError>
     ensures { OnOk result (out.new.items ≡ out.old.items ++ flat_map (λ word. byte " " ∷ word)
@@ -93,6 +102,10 @@ fn write_subject(out: &mut Vec<u8>, alloc: Global, subject: &Subject) -> Result<
             write_word(out, b"event")?;
             write_number(out, alloc, u32::from(*number))
         }
+        Subject::Limit(node, index, sub) => {
+            write_word(out, b"limit")?;
+            write_place(out, alloc, *node, *index, *sub)
+        }
         Subject::Message(name) => {
             write_word(out, b"message")?;
             write_word(out, name.as_slice())
@@ -105,6 +118,19 @@ fn write_subject(out: &mut Vec<u8>, alloc: Global, subject: &Subject) -> Result<
         Subject::Param(node, index, sub) => {
             write_word(out, b"param")?;
             write_place(out, alloc, *node, *index, *sub)
+        }
+        Subject::Receive(name, node) => {
+            write_word(out, b"receive")?;
+            write_word(out, name.as_slice())?;
+            write_number(out, alloc, u32::from(*node))
+        }
+        Subject::Rpdo(node, number) => {
+            write_word(out, b"rpdo")?;
+            write_pdo(out, alloc, *node, *number)
+        }
+        Subject::Tpdo(node, number) => {
+            write_word(out, b"tpdo")?;
+            write_pdo(out, alloc, *node, *number)
         }
     }
 }

@@ -16,12 +16,20 @@ pub enum Subject {
     Eds(Name, u32),
     /// `event`: an event of the scenario, by its number.
     Event(u16),
+    /// `limit`: an entry of a node's PDOs that the plan writes, by node, index and sub-index.
+    Limit(u8, u16, u8),
     /// `message`: a message, by its name.
     Message(Name),
     /// `node`: a node, or a heartbeat consumer of it by its sub-index.
     Node(u8, Option<u8>),
     /// `param`: a parameter of a node, by node, index and sub-index.
     Param(u8, u16, u8),
+    /// `receive`: a receive, by the name of its message and its node.
+    Receive(Name, u8),
+    /// `rpdo`: an RPDO of a node, by node and number.
+    Rpdo(u8, u16),
+    /// `tpdo`: a TPDO of a node, by node and number.
+    Tpdo(u8, u16),
 }
 
 impl Subject {
@@ -37,9 +45,16 @@ impl Subject {
                 *line,
             ),
             Subject::Event(number) => Subject::Event(*number),
+            Subject::Limit(node, index, sub) => Subject::Limit(*node, *index, *sub),
             Subject::Message(name) => Subject::Message(Name::from_slice(alloc, name.as_slice())?),
             Subject::Node(node, sub) => Subject::Node(*node, *sub),
             Subject::Param(node, index, sub) => Subject::Param(*node, *index, *sub),
+            Subject::Receive(name, node) => Subject::Receive(
+                Name::from_slice(alloc, name.as_slice())?,
+                *node,
+            ),
+            Subject::Rpdo(node, number) => Subject::Rpdo(*node, *number),
+            Subject::Tpdo(node, number) => Subject::Tpdo(*node, *number),
         };
         Ok(copied)
     }

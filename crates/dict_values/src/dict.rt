@@ -192,6 +192,20 @@ impl Dict {
         })
     }
 
+    /// An equal dictionary that shares no places with this one, so that what is written next goes among its own.
+    /// Takes time and memory by the number of entries, which is less than to write them one by one; values of more
+    /// than eight bytes are shared.
+    pub fn duplicate(&self) -> Result<Dict, AllocError>
+        ensures { IfOk result (λ dict. dict ≡ self.now) }
+    {
+        Ok(Dict {
+            alloc: self.alloc,
+            base: self.base.duplicate(self.alloc)?,
+            own: self.own.duplicate(self.alloc)?,
+            fingerprint: self.fingerprint,
+        })
+    }
+
     /// Whether the other dictionary has the same at each place of a layer.
     fn agrees_on(&self, other: &Dict, places: &Layer) -> bool
         ensures { IsTrue result ↔ AgreeOn places.now self.now other.now }

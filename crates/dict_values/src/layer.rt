@@ -78,6 +78,20 @@ impl Layer {
         }
     }
 
+    /// Equal values, which it doesn't share. Takes time and memory by their number.
+    pub(crate) fn duplicate(&self, alloc: Global) -> Result<Layer, AllocError>
+        ensures { IfOk result (λ layer. layer ≡ self.now) }
+    {
+        match &self.table {
+            None => Ok(Layer::new()),
+            Some(table) => {
+                let table = table.as_ref().clone()?;
+                let table = Rc::new(alloc, table)?;
+                Ok(Layer { table: Some(table) })
+            }
+        }
+    }
+
     /// Whether there is no value.
     pub(crate) fn is_empty(&self) -> bool
         ensures { IsTrue result → self.now ≡ map.empty }

@@ -28,4 +28,4 @@ AreAlike ss alike = (node : ℕ) → with_defaults ss node alike.others.items al
 
 -- the shape, and the defaults
 abbrev pub IsOfAll : List Section → Common → Type 0
-IsOfAll ss common = IsCommon ss common.shape × IfSome common.alike (AreAlike ss)
+IsOfAll ss common = IsCommon ss common.shape × AreAlike ss common.alike

@@ -18,17 +18,13 @@ use eds_entries::{DefaultText, Described};
 use std::alloc::AllocError;
 use std::sync::Arc;
 
-/// The number of entries for each of which one default may be another at another node, if defaults are shared: a
-/// device copies those above what is shared as it first writes, and looks there first as it reads.
-const ENTRIES_FOR_ANOTHER: usize = 128;
-
 /// What a device has alike at every node.
 #[derive(Drop)]
 pub(crate) struct Common {
     /// Its shape, if that is known to be the same at each.
     pub shape: Option<Shape>,
-    /// Its defaults, if nearly all of them are known to be the same at each.
-    pub alike: Option<Alike>,
+    /// Its defaults.
+    pub alike: Alike,
 }
 
 /// The defaults that a device has alike at every node.
@@ -82,6 +78,17 @@ fn share_text(text: &Option<Arc<Octets>>) -> Result<Option<Arc<Octets>>, AllocEr
     }
 }
 
+/// A shape, or the other where that is equal.
+fn or_equal(shape: Shape, other: &Shape) -> Result<Shape, AllocError>
+    ensures { IfOk result (λ s. s ≡ shape) }
+{
+    if other.same(&shape) {
+        other.share()
+    } else {
+        Ok(shape)
+    }
+}
+
 impl DataSheet {
     /// Sets an entry of a shape, where the device has it. `false` where it may differ from node to node.
     #[tactic(auto, unfolding(crate::specs::Entries::entry_at))]
@@ -116,6 +123,19 @@ impl DataSheet {
         }
         let shape = shape.into_shared(self.allocator())?;
         Ok(Some(shape))
+    }
+
+    /// The same, which is that of a device before where that is equal.
+    fn common_shape_or(&self, before: Option<&Shape>) -> Result<Option<Shape>, AllocError>
+        ensures { IfOk result (λ common. IsCommon self.now.sections common) }
+    {
+        match (self.common_shape()?, before) {
+            (Some(shape), Some(before)) => {
+                let shape = or_equal(shape, before)?;
+                Ok(Some(shape))
+            }
+            (shape, _) => Ok(shape),
+        }
     }
 
     /// Whether the default of an entry may differ from node to node.
@@ -164,36 +184,24 @@ impl DataSheet {
         Ok(Alike { values, others })
     }
 
-    /// The same, where nearly all defaults are the same at each node.
-    fn common_defaults(&self) -> Result<Option<Alike>, AllocError>
-        ensures { IfOk result (λ alike. IfSome alike (AreAlike self.now.sections)) }
-    {
-        let alike = self.alike_defaults()?;
-        if alike.others.len() <= self.pairs().len() / ENTRIES_FOR_ANOTHER {
-            Ok(Some(alike))
-        } else {
-            Ok(None)
-        }
-    }
-
     /// What it has alike at every node.
-    fn common_part(&self) -> Result<Common, AllocError>
+    fn common_part(&self, before: Option<&Shape>) -> Result<Common, AllocError>
         ensures { IfOk result (λ common. IsOfAll self.now.sections common) }
     {
-        let shape = self.common_shape()?;
-        let alike = self.common_defaults()?;
+        let shape = self.common_shape_or(before)?;
+        let alike = self.alike_defaults()?;
         Ok(Common { shape, alike })
     }
 
     /// The same device, which shares what was read of the text, and holds what is the same at every node: its
-    /// shape, where no limit of an integer is a formula of `$NODEID`; and its defaults, where at most one in 128
-    /// is such a formula. So `shared_shape` of it is found at once, and `defaults` in time and memory by the number
-    /// of these formulas. Takes time and memory by the number of entries, and time by its logarithm; want of memory
-    /// is the only error.
-    pub fn with_common(&self) -> Result<DataSheet, AllocError>
+    /// shape, where no limit of an integer is a formula of `$NODEID`; and the defaults that are no such formulas.
+    /// So `shared_shape` of it is found at once, and `defaults` with these alone described. A shape `before` that
+    /// is equal is shared: so devices of texts that come one after another have one. Takes time and memory
+    /// by the number of entries, and time by its logarithm; want of memory is the only error.
+    pub fn with_common(&self, before: Option<&Shape>) -> Result<DataSheet, AllocError>
         ensures { IfOk result (λ device. device ≡ self.now) }
     {
-        let common = self.common_part()?;
+        let common = self.common_part(before)?;
         let reading = Arc::try_clone(&self.reading)?;
         let text = share_text(&self.text)?;
         Ok(DataSheet {
@@ -203,8 +211,8 @@ impl DataSheet {
         })
     }
 
-    /// The shape that is kept for all nodes.
-    fn kept_shape(&self) -> Option<&Shape>
+    /// The shape that is kept for all nodes, where `with_common` found it.
+    pub fn kept_shape(&self) -> Option<&Shape>
         ensures { IfSome result (λ shape. (node : ℕ) → shape.now ≡ shape_of self.now.sections node) }
     {
         match &self.common {

@@ -133,7 +133,7 @@ impl DataSheet {
         ensures { IfSome result (λ alike. AreAlike self.now.sections alike.now) }
     {
         match &self.common {
-            Some(common) => common.alike.as_ref(),
+            Some(common) => Some(&common.alike),
             None => None,
         }
     }

@@ -11,6 +11,10 @@ use crate::data_sheet::DataSheet;
 use co_dict::{Dict, Shape};
 use std::alloc::AllocError;
 
+/// The number of entries for each of which one default may be another at another node, if nodes share the values
+/// below: a device copies those above what is shared as it first writes, and looks there first as it reads.
+const ENTRIES_FOR_ANOTHER: usize = 128;
+
 impl DataSheet {
     /// Sets an entry of a shape, where the device has it.
     fn add_entry(&self, shape: &mut Shape, node: u8, index: u16, sub: u8) -> Result<(), AllocError>
@@ -88,12 +92,23 @@ impl DataSheet {
         Ok(shape)
     }
 
+    /// The values that are the same at each node, which the nodes share where few others go above them.
+    fn values_below(&self, alike: &Alike) -> Result<Dict, AllocError>
+        ensures { IfOk result (λ dict. dict ≡ alike.now.values) }
+    {
+        if alike.others.len() <= self.pairs().len() / ENTRIES_FOR_ANOTHER {
+            alike.values.copy()
+        } else {
+            alike.values.duplicate()
+        }
+    }
+
     /// All defaults over those that are the same at each node.
     fn defaults_over(&self, alike: &Alike, node: u8) -> Result<Dict, AllocError>
         requires { AreAlike self.now.sections alike.now }
         ensures { IfOk result (λ dict. dict ≡ defaults_of self.now.sections node) }
     {
-        let mut dict = alike.values.copy()?;
+        let mut dict = self.values_below(alike)?;
         self.add_defaults(&mut dict, node, &alike.others)?;
         Ok(dict)
     }
@@ -108,8 +123,9 @@ impl DataSheet {
     }
 
     /// The defaults of all entries of a modelled type at a node. Takes time by the number of entries, at most
-    /// 4,096, and the logarithm of it, and memory by their number; where `with_common` found those that are the
-    /// same at each node, by the number of the others.
+    /// 4,096, and the logarithm of it, and memory by their number. Where `with_common` found those that are the
+    /// same at each node, these are copied, and shared where there is at most one other for 128 entries: then it
+    /// takes time and memory by the number of the others.
     pub fn defaults(&self, node: u8) -> Result<Dict, AllocError>
         ensures { IfOk result (λ dict. dict ≡ defaults_of self.now.sections node) }
     {

@@ -1,6 +1,7 @@
 -- What the parts of an image are, and what stands in for a part that is absent.
 use Rattle.std.specs.Prelude.{false, List, [], ◌∷◌, Option, Some, None, replicate, unwrap_or}
 use Rattle.std.specs.FinMap as map
+use Rattle.can_frame.specs.declared.slot_rule.SlotRule.TheVariants.{Unstuffed}
 use Rattle.co_dict.specs.Shapes.{Shaped}
 use Rattle.co_dict.specs.Values.{Values}
 use Rattle.co_scenario.specs.declared.timed_step.TimedStep.{TimedStep}
@@ -29,6 +30,7 @@ Image = Part → Content
 abbrev pub first_roster : Roster
 first_roster = record {
   bit_rate = 1000;
+  slots = Unstuffed;
   manager = 127;
   sync_us = 0;
   sync_counter = 0;

@@ -4,12 +4,15 @@ ghost use Rattle.std.specs.Prelude.{◌≡◌, ◌↔◌, IsTrue};
 
 use crate::start_mode::StartMode;
 use base::Octets;
+use can_frame::SlotRule;
 
 /// The bit rate, the manager (CiA 302) and the nodes of a network.
 #[derive(Debug, Drop)]
 pub struct Roster {
     /// The bit rate in kbit/s.
     pub bit_rate: u16,
+    /// Which bits of a frame take the bus.
+    pub slots: SlotRule,
     /// The manager's node number.
     pub manager: u8,
     /// The time between two SYNC messages in microseconds; 0 for none.
@@ -36,6 +39,9 @@ impl Roster {
         ensures { IsTrue result ↔ (self.now ≡ other.now) }
     {
         if self.bit_rate != other.bit_rate {
+            return false;
+        }
+        if self.slots != other.slots {
             return false;
         }
         if self.manager != other.manager {

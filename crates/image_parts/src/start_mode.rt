@@ -7,4 +7,7 @@ pub enum StartMode {
     EachNode,
     /// All nodes by one command, as soon as each mandatory node is configured; from then on each node by itself.
     WholeNetwork,
+    /// Each node that is configured then by a command of its own, as soon as each mandatory node is configured; from then
+    /// on each node by itself. So none is started that isn't configured.
+    ConfiguredNodes,
 }

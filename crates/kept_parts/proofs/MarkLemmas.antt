@@ -248,6 +248,8 @@ plan_below p (edit.Source message position index sub) name h = refl
 plan_below p (edit.Unsource message position) name h = refl
 plan_below p (edit.Sink message position node index sub) name h = refl
 plan_below p (edit.Unsink message position node) name h = refl
+plan_below p (edit.Receive message node rpdo event) name h = refl
+plan_below p (edit.Unreceive message node) name h = refl
 plan_below p (edit.Event number e) name h = refl
 plan_below p (edit.DropEvent number) name h = refl
 

@@ -4,6 +4,7 @@ use Rattle.std.proofs.Common.{IfSome, Bool, true, false, ◌+◌, ◌-◌, ◌^�
 use Rattle.std.proofs.lemmas.Bool.{eqb-true}
 use Rattle.std.specs.Option.{option_map_or}
 use Rattle.ini_text.specs.Content.{Content as DataSheet}
+use Rattle.project_edits.specs.Versions.{is_three}
 use Rattle.project_messages.specs.Messages.{Named}
 use Rattle.co_project.specs.declared.node.Node.{Node}
 use Rattle.co_project.specs.Project.{Content as Project}
@@ -43,15 +44,6 @@ module _ (p : Project) (a b : KeptParts) (m n : Work) where
       (named_so name node.eds same brings)
 
 -- ---- the plan
-
-abbrev pub from_both : List (ℕ × DataSheet) → Named → PlanFrom
-from_both devices messages = record { devices = devices; messages = messages }
-
-pub both_are : (p : Project) (devices : List (ℕ × DataSheet)) (messages : Named) → devices ≡ (plan_from p).devices
-    → messages ≡ p.messages → from_both devices messages ≡ plan_from p
-both_are p devices messages d m =
-    ap (λ (ds : List (ℕ × DataSheet)). from_both ds messages) d
-    ∙ ap (λ (ms : Named). from_both (plan_from p).devices ms) m
 
 -- a plan of other inputs is built
 pub plan_built : (p : Project) (old : Option PlanFrom) (now : PlanFrom) (m n : Work) → now ≡ plan_from p
@@ -114,7 +106,13 @@ own_template p id node eds (Some t) there same h =
 
 -- what a node's writes and its DCF are made from, by its device
 abbrev writes_by : Project → ℕ → Node → DataSheet → WritesFrom
-writes_by p id node device = record { plan = plan_made (plan_from p); params = node.params; device = device; node = id }
+writes_by p id node device = record {
+  is_three = is_three p.version;
+  plan = plan_made (plan_from p);
+  params = node.params;
+  device = device;
+  node = id;
+}
 
 abbrev dcf_by : Project → ℕ → Node → WritesFrom → DcfFrom
 dcf_by p id node w = record {

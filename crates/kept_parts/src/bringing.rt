@@ -101,9 +101,8 @@ impl KeptParts {
         ensures rises { Rises meter.old meter.new }
     {
         let devices = self.devices_for_plan(project)?;
-        let messages = project.messages();
-        self.plan
-            .build(self.alloc, PlanNow { devices, messages }, meter)?;
+        let now = PlanNow::of(project, devices);
+        self.plan.build(self.alloc, now, meter)?;
         Ok(())
     }
 
@@ -120,8 +119,7 @@ impl KeptParts {
             return Ok(());
         }
         let devices = self.bring_devices(project, meter)?;
-        let messages = project.messages();
-        let now = PlanNow { devices, messages };
+        let now = PlanNow::of(project, devices);
         if self.plan.settle(&now) {
             return Ok(());
         }

@@ -10,7 +10,7 @@ ghost use Rattle.kept_parts.specs.Kept.{kept_inputs, IsOf};
 
 use crate::kept_parts::KeptParts;
 use base::Shared;
-use co_diag::{NodesFound, diagnostics_by};
+use co_diag::{FoundBefore, diagnostics_by};
 use co_project::Project;
 use kept_values::Meter;
 use pdo_plan::Plan;
@@ -24,12 +24,12 @@ fn find(
     alloc: Global,
     library: &mut Library<'_>,
     plan: &Plan,
-    nodes: &mut NodesFound,
+    before: &mut FoundBefore,
 ) -> Result<Shared<Diagnostics>, AllocError>
     requires { plan.now ≡ plan_of_project library.old.project }
     ensures { IfOk result (λ d. d ≡ diagnostics_of library.old.project) }
 {
-    let list = diagnostics_by(alloc, library, plan, nodes)?;
+    let list = diagnostics_by(alloc, library, plan, before)?;
     let found = Diagnostics::new(alloc, list)?;
     Shared::new(alloc, found)
 }
@@ -94,7 +94,7 @@ impl KeptParts {
             return Ok(());
         }
         let mut library = self.library(project)?;
-        let found = find(self.alloc, &mut library, plan.get(), &mut self.nodes_found)?;
+        let found = find(self.alloc, &mut library, plan.get(), &mut self.found_before)?;
         self.found
             .build(self.alloc, DiagnosticsNow { project, found }, meter)?;
         Ok(())

@@ -12,7 +12,7 @@ ghost use Rattle.kept_parts.specs.Kept.{kept_inputs, IsCurrent, IsOf};
 ghost use Rattle.kept_parts.specs.Left.{left_of, IsSwept};
 
 use base::{ListedBytes, ListedText, Shared};
-use co_diag::NodesFound;
+use co_diag::FoundBefore;
 use co_project::Project;
 use image_parts::Roster;
 use kept_values::{Memo, Meter, Shelf};
@@ -39,8 +39,8 @@ pub struct KeptParts {
     pub(crate) windows: WindowShelf,
     pub(crate) found: Memo<DiagnosticsFrom, Shared<Diagnostics>>,
 
-    /// What diagnostics found of nodes by themselves the last time: no part, and of no answer.
-    pub(crate) nodes_found: NodesFound,
+    /// What diagnostics found before of what may not have changed: no part, and of no answer.
+    pub(crate) found_before: FoundBefore,
 
     /// Whether it is known that nothing is held of what the project doesn't have.
     pub(crate) swept: bool,
@@ -63,7 +63,7 @@ impl KeptParts {
             nodes: Shelf::new(alloc),
             windows: WindowShelf::new(alloc),
             found: Memo::new(),
-            nodes_found: NodesFound::new(alloc),
+            found_before: FoundBefore::new(alloc),
             swept: false,
         }
     }
@@ -77,7 +77,7 @@ impl KeptParts {
     /// of them first, without memory, and costs what making it does where they differ; a marked plan walks the
     /// nodes, a marked window is made of the events, and compared by its steps, and marked diagnostics compare the
     /// projects once, the texts of EDS last. They are made by the plan and the devices that are kept: a text that no
-    /// node is made from is read again then.
+    /// node is made from is read then, unless it is the one that was read for them before.
     pub fn refresh(
         &mut self,
         part: &Part,

@@ -31,7 +31,7 @@ impl KeptParts {
     }
 
     /// The device of an EDS as `device_of_now` gives it, with what it has alike at every node: that is found
-    /// at the first asking, by the number of entries and its logarithm, and kept till the EDS is marked.
+    /// at the first asking, by the number of entries and its logarithm, and kept till the text is another one.
     pub(crate) fn common_device_of_now(
         &mut self,
         project: &Project,

@@ -51,6 +51,14 @@ impl KeptParts {
         self.dcf.mark_all();
     }
 
+    /// Marks the roster, the plan and what is made from it.
+    fn touch_version(&mut self)
+        ensures { Marks (λ q. is_roster q || is_planned q) self.old self.new }
+    {
+        self.touch_plan();
+        self.roster.mark();
+    }
+
     /// Marks what a node goes into.
     fn touch_network(&mut self, id: u8)
         ensures { Marks (is_of_network id) self.old self.new }
@@ -110,6 +118,7 @@ impl KeptParts {
             Touch::Nothing => (),
             Touch::Rate => self.touch_rate(),
             Touch::Roster => self.touch_roster(),
+            Touch::Version => self.touch_version(),
             Touch::Sheet(name) => self.touch_text(name),
             Touch::Node(id) => self.touch_network(id),
             Touch::Parameters(id) => self.touch_parameters(id),

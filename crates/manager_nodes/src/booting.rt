@@ -43,7 +43,7 @@ impl Booting {
     }
 
     /// Whether the node is configured: its boot has ended, with all writes confirmed.
-    pub(crate) fn has_booted(&self) -> bool
+    pub fn has_booted(&self) -> bool
         ensures { result ≡ is_booted self.now.stage }
     {
         matches!(self.stage, BootStage::Configured)

@@ -183,6 +183,13 @@ impl NodeTable {
         })
     }
 
+    /// The nodes with their boots, by number.
+    pub fn as_slice(&self) -> &[Booting]
+        ensures { result.now ≡ self.now }
+    {
+        self.nodes.as_slice()
+    }
+
     /// Whether two tables are the same.
     pub fn same(&self, other: &NodeTable) -> bool
         ensures { IsTrue result ↔ (self.now ≡ other.now) }

@@ -16,21 +16,20 @@ use Rattle.concise_dcf.specs.Writes.{IsSized}
 use Rattle.image_parts.specs.Images.{IsWithin}
 use Rattle.project_plan.specs.Events.{shape_of_node}
 use Rattle.network_image.specs.Image.{defaults_of_node, image_of, window_steps, write_of_node}
-use Rattle.network_image.proofs.CountLemmas.{writes_countable}
+use Rattle.network_image.proofs.CountLemmas.{writes_countable, writes_fit}
 use Rattle.network_image.proofs.PointerLemmas.{all_at, place_below}
 use Rattle.network_image.proofs.RosterLemmas.{is_roster}
-use Rattle.network_image.proofs.SizeLemmas.{node_fits}
 use Rattle.network_image.proofs.StepLemmas.{steps_fit, steps_in_order, steps_said, steps_within}
 
 -- each write has data of 1 to 512 bytes
-write_fits : (p : Project) → (node place : ℕ) → IfSome (write_of_node p node place) IsSized
+write_fits : (p : Project) → IsSound p → (node place : ℕ) → IfSome (write_of_node p node place) IsSized
 unfolding write_of_node
-write_fits p node place = by (member_at p node)
+write_fits p sound node place = by (member_at p node)
   where
     by : (o : Option Member)
         → IfSome (option_and_then (λ (m : Member). slice_get (writes_of p m node) place) o) IsSized
     by None = tt
-    by (Some m) = all_at IsSized (writes_of p m node) place (node_fits p m node)
+    by (Some m) = all_at IsSized (writes_of p m node) place (writes_fit p sound node m)
 
 -- and its number is below the greatest
 write_ends : (p : Project) → IsSound p
@@ -61,7 +60,7 @@ pub is_image : (p : Project) → IsSound p → IsImage (image_of p)
 unfolding window_steps
 is_image p sound = record {
   roster = is_roster p sound;
-  writes = write_fits p;
+  writes = write_fits p sound;
   last = write_ends p sound;
   within = λ i. steps_said (AllByRecursion (IsWithin i)) tt (window_steps p i)
       (steps_within (shape_of_node p) p sound i);

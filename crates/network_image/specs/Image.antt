@@ -3,11 +3,13 @@ use Rattle.std.specs.Prelude.{ℕ, List, Option, Some, option_map, option_and_th
 use Rattle.std.specs.FinMap.{entries, keys}
 use Rattle.std.specs.Map.{keys_of}
 use Rattle.concise_dcf.specs.declared.write.Write.{Write}
+use Rattle.can_frame.specs.declared.slot_rule.SlotRule.{SlotRule}
+use Rattle.can_frame.specs.declared.slot_rule.SlotRule.TheVariants.{Stuffed, Unstuffed}
 use Rattle.co_dict.specs.Values.{Values}
 use Rattle.eds_device.specs.Entries.{defaults_of}
 use Rattle.eds_device.specs.Identity.{identity}
 use Rattle.project_edits.specs.declared.script_version.ScriptVersion.{ScriptVersion}
-use Rattle.project_edits.specs.declared.script_version.ScriptVersion.TheVariants.{One, Two}
+use Rattle.project_edits.specs.declared.script_version.ScriptVersion.TheVariants.{One, Two, Three}
 use Rattle.project_plan.specs.Events.{shape_of_node}
 use Rattle.project_plan.specs.Network.{member_at, writes_of, Member}
 use Rattle.co_project.specs.Project.{Content as Project}
@@ -18,22 +20,31 @@ use Rattle.image_parts.specs.declared.identity.Identity.{Identity}
 use Rattle.image_parts.specs.declared.part.Part.TheVariants as part
 use Rattle.image_parts.specs.declared.roster.Roster.{Roster}
 use Rattle.image_parts.specs.declared.start_mode.StartMode.{StartMode}
-use Rattle.image_parts.specs.declared.start_mode.StartMode.TheVariants.{EachNode, WholeNetwork}
+use Rattle.image_parts.specs.declared.start_mode.StartMode.TheVariants.{ConfiguredNodes, EachNode, WholeNetwork}
 use Rattle.network_image.specs.Steps.{steps_in, unless_none}
 
--- by the version of its script: each node is started by itself, or the network as a whole
+-- by the version of its script: each node is started by itself once it is configured, or the network as a whole, or all
+-- configured nodes, one after another
 abbrev pub start_mode_of : ScriptVersion → StartMode
 start_mode_of One = EachNode
 start_mode_of Two = WholeNetwork
+start_mode_of Three = ConfiguredNodes
+
+-- by the version of its script: frames are counted without stuff bits or with them
+abbrev pub slot_rule : ScriptVersion → SlotRule
+slot_rule One = Unstuffed
+slot_rule Two = Unstuffed
+slot_rule Three = Stuffed
 
 -- the numbers of the mandatory nodes, in rising order
 abbrev pub mandatory_of : Nodes → List ℕ
 mandatory_of nodes = keys_of (filter (λ e. e.1.mandatory) (entries nodes))
 
--- the bit rate, the manager, when it starts nodes, and the numbers of the nodes
+-- the bit rate, which bits of a frame take the bus, the manager, when it starts nodes, and the numbers of the nodes
 unfoldable pub roster_of_project : Project → Roster
 roster_of_project project = record {
   bit_rate = project.bitrate;
+  slots = slot_rule project.version;
   manager = project.manager.id;
   sync_us = project.manager.sync_us;
   sync_counter = project.sync_counter;

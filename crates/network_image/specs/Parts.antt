@@ -4,6 +4,7 @@ use Rattle.ini_text.specs.Content.{Section}
 use Rattle.eds_device.specs.Entries.{defaults_of, shape_of}
 use Rattle.eds_device.specs.Identity.{identity}
 use Rattle.pdo_links.specs.Writes.{node_writes}
+use Rattle.project_edits.specs.Versions.{is_three}
 use Rattle.project_plan.specs.Network.{plan_of_project}
 use Rattle.co_project.specs.declared.node.Node.{Node}
 use Rattle.co_project.specs.Project.{Content as Project}
@@ -18,7 +19,7 @@ pub record HasParts (project : Project) (id : ℕ) (node : Node) (ss : List Sect
   pub shape : image_of project (part.Shape id) ≡ ShapeIs (Some (shape_of ss id))
   pub expect : image_of project (part.Expect id) ≡ ExpectIs (Some (record { numbers = identity ss id }))
   pub writes : (place : ℕ) → image_of project (part.Boot id place)
-      ≡ BootIs (slice_get (node_writes (plan_of_project project) node.params ss id) place)
+      ≡ BootIs (slice_get (node_writes (is_three project.version) (plan_of_project project) node.params ss id) place)
 
 -- a number has none
 pub record HasNoParts (project : Project) (id : ℕ) : Type 0 where

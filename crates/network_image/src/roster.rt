@@ -1,9 +1,10 @@
 //! The roster of a project.
 ghost use Rattle.std.specs.Prelude.{◌≡◌, ◌↔◌, IfOk, IsTrue};
 ghost use Rattle.std.specs.FinMap as map;
-ghost use Rattle.network_image.specs.Image.{mandatory_of, roster_of_project, start_mode_of};
+ghost use Rattle.network_image.specs.Image.{mandatory_of, roster_of_project, slot_rule, start_mode_of};
 
 use base::Octets;
+use can_frame::SlotRule;
 use co_project::{Project, ScriptVersion};
 use image_parts::{Roster, StartMode};
 use std::alloc::{AllocError, Global};
@@ -39,6 +40,17 @@ fn start_mode(version: ScriptVersion) -> StartMode
     match version {
         ScriptVersion::One => StartMode::EachNode,
         ScriptVersion::Two => StartMode::WholeNetwork,
+        ScriptVersion::Three => StartMode::ConfiguredNodes,
+    }
+}
+
+/// Which bits of a frame take the bus, by the version of a script.
+fn slot_rule(version: ScriptVersion) -> SlotRule
+    ensures { result ≡ slot_rule version }
+{
+    match version {
+        ScriptVersion::One | ScriptVersion::Two => SlotRule::Unstuffed,
+        ScriptVersion::Three => SlotRule::Stuffed,
     }
 }
 
@@ -52,6 +64,7 @@ pub fn make_roster(alloc: Global, project: &Project) -> Result<Roster, AllocErro
     let nodes = node_numbers(alloc, project)?;
     Ok(Roster {
         bit_rate: project.bitrate(),
+        slots: slot_rule(project.version()),
         manager: manager.id,
         sync_us: manager.sync_us,
         sync_counter: project.sync_counter(),
@@ -107,6 +120,7 @@ pub fn is_roster(roster: &Roster, project: &Project) -> bool
 {
     let manager = project.manager();
     roster.bit_rate == project.bitrate()
+        && roster.slots == slot_rule(project.version())
         && roster.manager == manager.id
         && roster.sync_us == manager.sync_us
         && roster.sync_counter == project.sync_counter()

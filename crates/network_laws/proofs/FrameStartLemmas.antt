@@ -131,7 +131,7 @@ sent_is c (Some i) ds m = refl
 
 starts_with : (t : ℕ) (s : Bus) (c : Contender) (o : Option ℕ) → winner s.devices s.manager ≡ Some c
     → Leaves c o s.devices s.manager
-    → StartsWith t s (slot_of t s.bit_time c.node (winning_frame c o s.devices s.manager)) c
+    → StartsWith t s (slot_of t s.slots s.bit_time c.node (winning_frame c o s.devices s.manager)) c
     (sent_waiting c o s.devices s.manager)
 starts_with t s c o e leaves = record {
   wins = wins s.devices s.manager c e;
@@ -142,7 +142,7 @@ starts_with t s c o e leaves = record {
       leaves.its_place,
     ),
   );
-  is = ap (slot_of t s.bit_time c.node) (sent_is c o s.devices s.manager);
+  is = ap (slot_of t s.slots s.bit_time c.node) (sent_is c o s.devices s.manager);
 }
 
 nothing_starts : (wire : Option Slot) (slot : Slot) → wire ≡ None → wire ≡ Some slot → None ≡ Some slot

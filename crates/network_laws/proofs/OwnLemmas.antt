@@ -28,9 +28,12 @@ use Rattle.nmt_boot.specs.Manager.{Manager, after_frame, after_step, manager_at_
 use Rattle.nmt_boot.specs.Periodic.{frame_of, purpose_of, sync_frame}
 use Rattle.nmt_boot.specs.declared.periodic_message.PeriodicMessage.{PeriodicMessage}
 use Rattle.nmt_boot.specs.declared.periodic_message.PeriodicMessage.TheVariants.{Heartbeat, Sync}
-use Rattle.manager_nodes.specs.Table.{is_from}
+use Rattle.manager_nodes.specs.Table.{has_booted, is_from}
 use Rattle.manager_nodes.specs.Table.{no_node, node_after, node_at, place_of, queue_after_time_out, queue_after_time_outs}
-use Rattle.nmt_boot.specs.Startup.{Startup, frames_of_configured, start_frames, start_of, starts_each, starts_network}
+use Rattle.image_parts.specs.declared.start_mode.StartMode.{StartMode}
+use Rattle.image_parts.specs.declared.start_mode.StartMode.TheVariants.{ConfiguredNodes, EachNode, WholeNetwork}
+use Rattle.nmt_boot.specs.Startup.{Startup, frames_of_configured, network_start_frames, start_frames, start_of, starts_each}
+use Rattle.nmt_boot.specs.Startup.{starts_network, starts_of_configured}
 use Rattle.manager_nodes.specs.Table.{sdo_frames, timed_out, unseen_node}
 use Rattle.nmt_boot.specs.Manager.{with_command}
 use Rattle.manager_nodes.specs.Table.{with_stage}
@@ -99,6 +102,20 @@ module _ (number : ℕ) where
   requests_own node is None = All-nil IsOwn
   requests_own node is (Some bytes) = one _ (is, refl)
 
+  configured_own : (nodes : List Booting) → AreOwn (starts_of_configured nodes)
+  configured_own [] = All-nil IsOwn
+  configured_own (node ∷ nodes) = by (has_booted node.stage) (configured_own nodes)
+    where
+      by : (b : Bool) → AreOwn (starts_of_configured nodes)
+          → AreOwn ((if b then start_of node.number else []) ++ starts_of_configured nodes)
+      by true rest = more (start_of node.number) (starts_of_configured nodes) (one _ refl) rest
+      by false rest = rest
+
+  network_own : (mode : StartMode) (nodes : List Booting) → AreOwn (network_start_frames mode nodes)
+  network_own EachNode nodes = All-nil IsOwn
+  network_own WholeNetwork nodes = one _ refl
+  network_own ConfiguredNodes nodes = configured_own nodes
+
   starts_own : (startup : Startup) (nodes : List Booting) (node : ℕ) (note : Option NoteKind)
       → AreOwn (start_frames startup nodes node note)
   unfolding frames_of_configured
@@ -106,9 +123,10 @@ module _ (number : ℕ) where
   starts_own startup nodes node (Some kind.Lost) = All-nil IsOwn
   starts_own startup nodes node (Some kind.Configured) = by (starts_each startup) (starts_network startup nodes)
     where
-      by : (b c : Bool) → AreOwn (if b then start_of node else if c then start_of 0 else [])
+      by : (b c : Bool) → AreOwn (if b then start_of node
+          else if c then network_start_frames startup.mode nodes else [])
       by true c = one _ refl
-      by false true = one _ refl
+      by false true = network_own startup.mode nodes
       by false false = All-nil IsOwn
   starts_own startup nodes node (Some kind.Difference) = All-nil IsOwn
   starts_own startup nodes node (Some (kind.Aborted abort)) = All-nil IsOwn

@@ -96,6 +96,7 @@ module _ (image : Image) (roster : Roster) (is : IsRoster roster) where
     nodes_run = record {
       spent = r.spent;
       bit_time = r.bit_time;
+      slots = r.slots;
       devices = heard_devices (ended_slot t r.wire);
       manager = (outcome (manager_after_delivery t (ended_slot t r.wire) r.manager) image).0;
       wire = open_slot t r.wire;

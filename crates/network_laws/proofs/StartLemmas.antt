@@ -16,6 +16,7 @@ use Rattle.can_bus.specs.Bus.{devices_without_winner, manager_without_winner, wi
 use Rattle.can_bus.specs.declared.slot.Slot.{Slot}
 use Rattle.can_bus.proofs.ArbitrationLemmas.{contends_is, manager_contends, none_found, place_within}
 use Rattle.can_frame.specs.Frames.{BaseFrame}
+use Rattle.can_frame.specs.declared.slot_rule.SlotRule.{SlotRule}
 use Rattle.can_frame.specs.Identifiers.{error_control_id, sdo_answer_id, sdo_request_id}
 use Rattle.can_frame.specs.WaitingFrames.{is_unwanted, waiting}
 use Rattle.can_frame.specs.Winner.{IsWinner, contenders_of, is_below, winner_of}
@@ -192,7 +193,8 @@ module _ (image : Image) (roster : Roster) (is : IsRoster roster) where
   abbrev Good : MarkedEntries → List Device → Manager → Option Slot → Type 0
   Good marks ds m wire = IsGood image roster marks ds m wire
 
-  module _ (marks : MarkedEntries) (ds : List Device) (m : Manager) (g : Good marks ds m None) (t bit : ℕ) (c : Contender) where
+  module _ (marks : MarkedEntries) (ds : List Device) (m : Manager) (g : Good marks ds m None) (t : ℕ) (rule : SlotRule)
+      (bit : ℕ) (c : Contender) where
     -- the frame of a device starts
     module _ (j : ℕ) (found : Some j ≡ sender_place c ds) where
       abbrev d : Device
@@ -202,7 +204,7 @@ module _ (image : Image) (roster : Roster) (is : IsRoster roster) where
       w = get_or d.waiting c.place none
 
       abbrev slot : Slot
-      slot = slot_of t bit c.node w.frame
+      slot = slot_of t rule bit c.node w.frame
 
       there : (j < length ds) × (contends_with c d ≡ true)
       unfolding sender_place
@@ -284,7 +286,7 @@ module _ (image : Image) (roster : Roster) (is : IsRoster roster) where
       mw = get_or m.waiting c.place none
 
       abbrev mslot : Slot
-      mslot = slot_of t bit c.node mw.frame
+      mslot = slot_of t rule bit c.node mw.frame
 
       abbrev mleft : Manager
       mleft = record m { waiting = remove m.waiting c.place }
@@ -345,11 +347,11 @@ module _ (image : Image) (roster : Roster) (is : IsRoster roster) where
     by_sender : (c : Contender) → winner s.devices s.manager ≡ Some c → Good marks s.devices s.manager None
         → (o : Option ℕ) → o ≡ sender_place c s.devices
         → Good marks (devices_without_winner c o s.devices) (manager_without_winner c o s.manager)
-        (Some (slot_of t s.bit_time c.node (winning_frame c o s.devices s.manager)))
+        (Some (slot_of t s.slots s.bit_time c.node (winning_frame c o s.devices s.manager)))
     unfolding winner
-    by_sender c e g (Some j) found = device_starts marks s.devices s.manager g t s.bit_time c j found
+    by_sender c e g (Some j) found = device_starts marks s.devices s.manager g t s.slots s.bit_time c j found
     by_sender c e g None found =
-        manager_starts marks s.devices s.manager g t s.bit_time c
+        manager_starts marks s.devices s.manager g t s.slots s.bit_time c
         (manager_contends s.devices s.manager c e (λ k d l. unfound k d l))
       where
         unfound : (k : ℕ) (d : Device) → k < length s.devices → contends_with c (get_or s.devices k d) ≡ false

@@ -107,6 +107,7 @@ module _ (image : Image) (t : ℕ) (s : Bus) (Before Heard After : Manager → T
       (slot_manager (record {
         spent = b.spent;
         bit_time = b.bit_time;
+        slots = b.slots;
         devices = map (after_instant t) heard;
         manager = r.0;
         wire = open_slot t b.wire;

@@ -15,8 +15,11 @@ use Rattle.node_boot.specs.declared.boot_step.BootStep.{BootStep}
 use Rattle.node_boot.specs.declared.note_kind.NoteKind.{NoteKind}
 use Rattle.node_boot.specs.declared.note_kind.NoteKind.TheVariants as kind
 use Rattle.manager_nodes.specs.declared.booting.Booting.{Booting}
-use Rattle.nmt_boot.specs.Startup.{Startup, frames_of_configured, start_frames, start_of, starts_each, starts_network}
-use Rattle.manager_nodes.specs.Table.{sdo_frames}
+use Rattle.image_parts.specs.declared.start_mode.StartMode.{StartMode}
+use Rattle.image_parts.specs.declared.start_mode.StartMode.TheVariants.{ConfiguredNodes, EachNode, WholeNetwork}
+use Rattle.nmt_boot.specs.Startup.{Startup, frames_of_configured, network_start_frames, start_frames, start_of, starts_each}
+use Rattle.nmt_boot.specs.Startup.{starts_network, starts_of_configured}
+use Rattle.manager_nodes.specs.Table.{has_booted, sdo_frames}
 use Rattle.network_laws.specs.Requests.{requests_to}
 
 pub number_itself : (n : ℕ) → (n == n) ≡ true
@@ -47,6 +50,22 @@ module _ (n : ℕ) where
   other_request k apart None = refl
   other_request k apart (Some bytes) = rw (number_other n k apart) refl
 
+  no_configured : (nodes : List Booting) → requests_to n (starts_of_configured nodes) ≡ []
+  unfolding requests_to
+  no_configured [] = refl
+  no_configured (node ∷ nodes) = by (has_booted node.stage) (no_configured nodes)
+    where
+      by : (b : Bool) → requests_to n (starts_of_configured nodes) ≡ []
+          → requests_to n ((if b then start_of node.number else []) ++ starts_of_configured nodes) ≡ []
+      by true rest = rest
+      by false rest = rest
+
+  no_network_start : (mode : StartMode) (nodes : List Booting) → requests_to n (network_start_frames mode nodes) ≡ []
+  unfolding requests_to
+  no_network_start EachNode nodes = refl
+  no_network_start WholeNetwork nodes = refl
+  no_network_start ConfiguredNodes nodes = no_configured nodes
+
   no_start : (startup : Startup) (nodes : List Booting) (k : ℕ) (note : Option NoteKind)
       → requests_to n (start_frames startup nodes k note) ≡ []
   unfolding requests_to frames_of_configured
@@ -55,9 +74,10 @@ module _ (n : ℕ) where
   no_start startup nodes k (Some kind.Configured) = by (starts_each startup) (starts_network startup nodes)
     where
       by : (b c : Bool)
-          → requests_to n (if b then start_of k else if c then start_of 0 else []) ≡ []
+          → requests_to n (if b then start_of k
+          else if c then network_start_frames startup.mode nodes else []) ≡ []
       by true c = refl
-      by false true = refl
+      by false true = no_network_start startup.mode nodes
       by false false = refl
   no_start startup nodes k (Some kind.Difference) = refl
   no_start startup nodes k (Some (kind.Aborted abort)) = refl

@@ -57,7 +57,7 @@ pub fn periodic_messages_are_due_at_whole_multiples()
         ↔ IsMultiple t (roster_of (image part.Roster)).sync_us }
 {}
 
-/// In a run the network is started as a whole at most once: only in an instant that leaves each mandatory node
+/// In a run the network is started at most once: only in an instant that leaves each mandatory node
 /// configured, and then it stays started to the end, whatever is lost. Where the roster has each node started by
 /// itself, that never happens.
 #[tactic(auto, using(crate::proofs::StartedLemmas::starts_with_mandatory, crate::proofs::StartedLemmas::stays_started, crate::proofs::StartedLemmas::never_started))]

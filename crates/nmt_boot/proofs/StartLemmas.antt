@@ -1,5 +1,5 @@
--- The network is started as a whole at most once, with each mandatory node configured.
-use Rattle.std.proofs.Common.{◌≡◌, ℕ, zero, suc, ◌+◌, ◌<◌, ◌≤◌, Bool, true, false, List, [], ◌∷◌, ◌++◌, length, map}
+-- The network is started at most once, with each mandatory node configured.
+use Rattle.std.proofs.Common.{◌≡◌, ◌≢◌, ℕ, zero, suc, ◌+◌, ◌<◌, ◌≤◌, Bool, true, false, List, [], ◌∷◌, ◌++◌, length, map}
 use Rattle.std.proofs.Common.{Option, Some, None, ◌⊎◌, inl, inr, refl, sym, ap, ◌∙◌, arith}
 use Rattle.std.specs.Prelude.{◌==◌, ◌&&◌, ◌||◌, not, if◌then◌else◌, filter}
 use Rattle.std.specs.List.{AllByRecursion}
@@ -8,7 +8,7 @@ use Rattle.std.proofs.lemmas.List.{length-append}
 use Rattle.std.proofs.lemmas.List.Elements.{filter-append}
 use Rattle.std.proofs.lemmas.List.Quantifiers.{position-Some}
 use Rattle.image_parts.specs.Asking.{outcome}
-use Rattle.manager_nodes.specs.Table.{all_configured, is_from, no_node, node_after, node_at, place_of, queue_after_time_outs}
+use Rattle.manager_nodes.specs.Table.{all_configured, has_booted, is_from, no_node, node_after, node_at, place_of, queue_after_time_outs}
 use Rattle.manager_nodes.specs.Table.{sdo_frames, timed_out, unseen_node, with_stage}
 use Rattle.manager_nodes.specs.declared.booting.Booting.{Booting}
 use Rattle.can_frame.specs.Frames.{BaseFrame}
@@ -22,7 +22,7 @@ use Rattle.image_parts.specs.Contents.{Image}
 use Rattle.image_parts.specs.Images.{IsNode, IsRoster}
 use Rattle.image_parts.specs.declared.roster.Roster.{Roster}
 use Rattle.image_parts.specs.declared.start_mode.StartMode.{StartMode}
-use Rattle.image_parts.specs.declared.start_mode.StartMode.TheVariants.{EachNode, WholeNetwork}
+use Rattle.image_parts.specs.declared.start_mode.StartMode.TheVariants.{ConfiguredNodes, EachNode, WholeNetwork}
 use Rattle.co_scenario.specs.declared.nmt_command.NmtCommand.TheVariants.{Start}
 use Rattle.node_boot.specs.Boot.{is_timed_out, sdo_time_out}
 use Rattle.node_boot.specs.declared.boot_stage.BootStage.{BootStage}
@@ -37,8 +37,9 @@ use Rattle.nmt_boot.specs.declared.periodic.Periodic.{Periodic}
 use Rattle.nmt_boot.specs.declared.periodic_message.PeriodicMessage.{PeriodicMessage}
 use Rattle.nmt_boot.specs.declared.periodic_message.PeriodicMessage.TheVariants as periodic
 use Rattle.nmt_boot.specs.Startup.{by_mode, frames_of_configured, start_frames, start_of, starts_each, startup_after}
-use Rattle.nmt_boot.specs.Startup.{nmt_frame, startup_of_configured}
+use Rattle.nmt_boot.specs.Startup.{network_start_frames, nmt_frame, startup_of_configured, starts_of_configured}
 use Rattle.nmt_boot.specs.Starts.{HasNodeNumbers, KeepsStart, StartsNetwork, is_network_start, network_starts}
+use Rattle.nmt_boot.specs.Starts.{starts_of_all}
 
 -- ---- how many frames start the network
 
@@ -212,16 +213,33 @@ all_at_once : network_starts (start_of 0) ≡ 1
 unfolding network_starts
 all_at_once = refl
 
+configured_starts : (nodes : List Booting) → AreAbove nodes → network_starts (starts_of_configured nodes) ≡ 0
+configured_starts [] h = none_at_all
+configured_starts (node ∷ nodes) h = by (has_booted node.stage) (configured_starts nodes h.1)
+  where
+    by : (b : Bool) → network_starts (starts_of_configured nodes) ≡ 0
+        → network_starts ((if b then start_of node.number else []) ++ starts_of_configured nodes) ≡ 0
+    by true rest = starts_of_both (start_of node.number) (starts_of_configured nodes)
+        ∙ rw (itself_alone node.number h.0, rest) refl
+    by false rest = rest
+
+whole_other : WholeNetwork ≢ EachNode
+whole_other e = cc
+
+configured_other : ConfiguredNodes ≢ EachNode
+configured_other e = cc
+
 waits_for_network : (mode : StartMode) (is_started : Bool) → by_mode mode is_started ≡ false
-    → (mode ≡ WholeNetwork) × (is_started ≡ false)
+    → (mode ≢ EachNode) × (is_started ≡ false)
 waits_for_network EachNode is_started e = cc
-waits_for_network WholeNetwork is_started e = (refl, e)
+waits_for_network WholeNetwork is_started e = (whole_other, e)
+waits_for_network ConfiguredNodes is_started e = (configured_other, e)
 
 abbrev Starts : Manager → Manager → Type 0
 Starts m after = KeepsStart m after ⊎ StartsNetwork m after
 
-module _ (m : Manager) (nodes : List Booting) (node : ℕ) (above : 1 ≤ node) (ws : List Waiting)
-    (as_many : network_starts ws ≡ network_starts m.waiting) where
+module _ (m : Manager) (nodes : List Booting) (all_above : AreAbove nodes) (node : ℕ) (above : 1 ≤ node)
+    (ws : List Waiting) (as_many : network_starts ws ≡ network_starts m.waiting) where
   -- the frames that are queued then
   queued : (added : List Waiting) (n : ℕ) → network_starts added ≡ n
       → network_starts (ws ++ added) ≡ network_starts m.waiting + n
@@ -233,8 +251,11 @@ module _ (m : Manager) (nodes : List Booting) (node : ℕ) (above : 1 ≤ node) 
   itself : network_starts (ws ++ start_of node) ≡ network_starts m.waiting
   itself = queued (start_of node) 0 (itself_alone node above) ∙ omega arith
 
-  whole : network_starts (ws ++ start_of 0) ≡ network_starts m.waiting + 1
-  whole = queued (start_of 0) 1 all_at_once
+  begun : (mode : StartMode)
+      → network_starts (ws ++ network_start_frames mode nodes) ≡ network_starts m.waiting + starts_of_all mode
+  begun EachNode = queued [] 0 none_at_all
+  begun WholeNetwork = queued (start_of 0) 1 all_at_once
+  begun ConfiguredNodes = queued (starts_of_configured nodes) 0 (configured_starts nodes all_above)
 
   stays : (record m.startup { is_started = m.startup.is_started || false }) ≡ m.startup
   stays = by m.startup.is_started
@@ -254,12 +275,20 @@ module _ (m : Manager) (nodes : List Booting) (node : ℕ) (above : 1 ≤ node) 
       → Starts m (record m {
         startup = record m.startup { is_started = m.startup.is_started || (not each && all) };
         nodes = nodes;
-        waiting = ws ++ (if each then start_of node else if not each && all then start_of 0 else []);
+        waiting = ws ++ (if each then start_of node
+            else if not each && all then network_start_frames m.startup.mode nodes else []);
       })
   by_tests true all e f = inl (record { startup = stays; waiting = itself })
   by_tests false true e f =
       let waits = waits_for_network m.startup.mode m.startup.is_started e in
-      inr (record { mode = waits.0; not_before = waits.1; configured = f; started = turns; waiting = whole })
+      inr (record {
+        mode = waits.0;
+        not_before = waits.1;
+        configured = f;
+        started = turns;
+        sent = (ws, refl);
+        waiting = begun m.startup.mode;
+      })
   by_tests false false e f = inl (record { startup = stays; waiting = nothing })
 
   by_note : (note : Option NoteKind) → Starts m (record m {
@@ -280,11 +309,11 @@ with_request : (node : ℕ) (request : Option (List ℕ)) (ws : List Waiting)
     → network_starts (ws ++ sdo_frames node request) ≡ network_starts ws
 with_request node request ws = starts_of_both ws (sdo_frames node request) ∙ rw (sdo_starts node request) (omega arith)
 
-step_starts : (m : Manager) (i : ℕ) (step : BootStep) (ws : List Waiting) → 1 ≤ (node_at m.nodes i).number
-    → network_starts ws ≡ network_starts m.waiting
+step_starts : (m : Manager) (i : ℕ) (step : BootStep) (ws : List Waiting) → HasNodeNumbers m
+    → 1 ≤ (node_at m.nodes i).number → network_starts ws ≡ network_starts m.waiting
     → Starts m (after_step i step (record m { waiting = ws })).0
-step_starts m i step ws above e =
-    by_note m (with_stage m.nodes i step.stage) (node_at m.nodes i).number above
+step_starts m i step ws h above e =
+    by_note m (with_stage m.nodes i step.stage) (stage_above m.nodes i step.stage h) (node_at m.nodes i).number above
     (ws ++ sdo_frames (node_at m.nodes i).number step.request)
     (with_request (node_at m.nodes i).number step.request ws ∙ e) step.note
 
@@ -297,19 +326,16 @@ pub frame_starts : (image : Image) (t : ℕ) (frame : BaseFrame) (m : Manager) �
     → KeepsStart m (outcome (after_frame t frame m) image).0 ⊎ StartsNetwork m (outcome (after_frame t frame m) image).0
 frame_starts image t frame m h = received_holds image t frame m (λ r read. Starts m r.0)
     (inl (record { startup = refl; waiting = refl }))
-    (λ i e. step_starts m i _ (without_unwanted (SdoOf (node_at m.nodes i).number) m.waiting)
+    (λ i e. step_starts m i _ (without_unwanted (SdoOf (node_at m.nodes i).number) m.waiting) h
     (found_above m (error_control_id 0) frame.id i h e)
     (dropped_starts (node_at m.nodes i).number m.waiting))
-    (λ i e. step_starts m i _ m.waiting (found_above m (sdo_answer_id 0) frame.id i h e) refl)
+    (λ i e. step_starts m i _ m.waiting h (found_above m (sdo_answer_id 0) frame.id i h e) refl)
 
 -- ---- never by itself, and never again
 
-not_each : EachNode ≡ WholeNetwork → ⊥
-not_each e = cc
-
 never : (m after : Manager) → m.startup.mode ≡ EachNode → Starts m after → KeepsStart m after
 never m after e (inl keeps) = keeps
-never m after e (inr starts) = absurd (not_each (sym e ∙ starts.mode))
+never m after e (inr starts) = absurd (starts.mode e)
 
 never_again : (m after : Manager) → m.startup.is_started ≡ true → Starts m after → KeepsStart m after
 never_again m after e (inl keeps) = keeps
@@ -323,3 +349,17 @@ pub at_most_once : (image : Image) (t : ℕ) (frame : BaseFrame) (m : Manager) �
     → m.startup.is_started ≡ true → KeepsStart m (outcome (after_frame t frame m) image).0
 at_most_once image t frame m h e =
     never_again m (outcome (after_frame t frame m) image).0 e (frame_starts image t frame m h)
+
+-- ---- and where configured nodes are started, by no command to all
+
+of_all : (m after : Manager) → m.startup.mode ≡ ConfiguredNodes → Starts m after
+    → network_starts after.waiting ≡ network_starts m.waiting
+of_all m after e (inl keeps) = keeps.waiting
+of_all m after e (inr starts) =
+    let none : starts_of_all m.startup.mode ≡ 0 = ap starts_of_all e in
+    starts.waiting ∙ rw none (omega arith)
+
+pub none_of_all : (image : Image) (t : ℕ) (frame : BaseFrame) (m : Manager) → HasNodeNumbers m
+    → m.startup.mode ≡ ConfiguredNodes
+    → network_starts (outcome (after_frame t frame m) image).0.waiting ≡ network_starts m.waiting
+none_of_all image t frame m h e = of_all m (outcome (after_frame t frame m) image).0 e (frame_starts image t frame m h)

@@ -1,5 +1,6 @@
 -- When the manager starts nodes (CiA 302, start of NMT slaves).
 use Rattle.std.specs.Prelude.{ℕ, ◌&&◌, ◌||◌, not, Bool, true, false, List, [], ◌∷◌, Option, Some, None, if◌then◌else◌}
+use Rattle.std.specs.List.{flat_map}
 use Rattle.can_frame.specs.Frames.{BaseFrame}
 use Rattle.can_frame.specs.NmtMessages.{nmt_message}
 use Rattle.can_frame.specs.WaitingFrames.{waiting}
@@ -7,16 +8,16 @@ use Rattle.can_frame.specs.declared.purpose.Purpose.TheVariants.{Nmt}
 use Rattle.can_frame.specs.declared.waiting.Waiting.{Waiting}
 use Rattle.image_parts.specs.declared.roster.Roster.{Roster}
 use Rattle.image_parts.specs.declared.start_mode.StartMode.{StartMode}
-use Rattle.image_parts.specs.declared.start_mode.StartMode.TheVariants.{EachNode, WholeNetwork}
+use Rattle.image_parts.specs.declared.start_mode.StartMode.TheVariants.{ConfiguredNodes, EachNode, WholeNetwork}
 use Rattle.co_scenario.specs.Commands.{number_of}
 use Rattle.co_scenario.specs.declared.nmt_command.NmtCommand.{NmtCommand}
 use Rattle.co_scenario.specs.declared.nmt_command.NmtCommand.TheVariants.{Start}
 use Rattle.node_boot.specs.declared.note_kind.NoteKind.{NoteKind}
 use Rattle.node_boot.specs.declared.note_kind.NoteKind.TheVariants as kind
-use Rattle.manager_nodes.specs.Table.{all_configured}
+use Rattle.manager_nodes.specs.Table.{all_configured, has_booted}
 use Rattle.manager_nodes.specs.declared.booting.Booting.{Booting}
 
--- when it starts nodes, the numbers of the mandatory nodes, and whether it has started the network as a whole
+-- when it starts nodes, the numbers of the mandatory nodes, and whether it has started the network
 pub record Startup : Type 0 where
   pub mode : StartMode
   pub mandatory : List ℕ
@@ -30,15 +31,16 @@ startup_of roster = record { mode = roster.start_mode; mandatory = roster.mandat
 
 -- ---- which nodes are started, where a node is configured
 
--- each node by itself: in this mode always, and in the other once the network is started
+-- each node by itself: in this mode always, and in the others once the network is started
 abbrev pub by_mode : StartMode → Bool → Bool
 by_mode EachNode is_started = true
 by_mode WholeNetwork is_started = is_started
+by_mode ConfiguredNodes is_started = is_started
 
 abbrev pub starts_each : Startup → Bool
 starts_each startup = by_mode startup.mode startup.is_started
 
--- the whole network: it wasn't started yet, and each mandatory node is configured
+-- the network: it wasn't started yet, and each mandatory node is configured
 abbrev pub starts_network : Startup → List Booting → Bool
 starts_network startup nodes = not (starts_each startup) && all_configured nodes startup.mandatory
 
@@ -52,11 +54,25 @@ nmt_frame command node = nmt_message (number_of command) node
 abbrev pub start_of : ℕ → List Waiting
 start_of node = waiting Nmt (nmt_frame Start node) ∷ []
 
+-- that of a node, where it is configured
+abbrev pub start_if_configured : Booting → List Waiting
+start_if_configured node = if has_booted node.stage then start_of node.number else []
+
+-- and of each of them, by number
+abbrev pub starts_of_configured : List Booting → List Waiting
+starts_of_configured nodes = flat_map start_if_configured nodes
+
+-- what starts the network: one command to all nodes, or one to each node that is configured
+abbrev pub network_start_frames : StartMode → List Booting → List Waiting
+network_start_frames EachNode nodes = []
+network_start_frames WholeNetwork nodes = start_of 0
+network_start_frames ConfiguredNodes nodes = starts_of_configured nodes
+
 -- a node is configured, and the nodes are these now
 unfoldable pub frames_of_configured : Startup → List Booting → ℕ → List Waiting
 frames_of_configured startup nodes node =
     if starts_each startup then start_of node
-    else if starts_network startup nodes then start_of 0
+    else if starts_network startup nodes then network_start_frames startup.mode nodes
     else []
 
 abbrev pub start_frames : Startup → List Booting → ℕ → Option NoteKind → List Waiting

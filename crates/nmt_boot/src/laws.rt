@@ -9,7 +9,7 @@ ghost use Rattle.can_frame.specs.WaitingFrames.{waiting};
 ghost use Rattle.image_parts.specs.Contents.{Image};
 ghost use Rattle.image_parts.specs.Images.{IsRoster};
 ghost use Rattle.image_parts.specs.declared.roster.Roster.{Roster as Network};
-ghost use Rattle.image_parts.specs.declared.start_mode.StartMode.TheVariants.{EachNode};
+ghost use Rattle.image_parts.specs.declared.start_mode.StartMode.TheVariants.{ConfiguredNodes, EachNode};
 ghost use Rattle.co_scenario.specs.declared.nmt_command.NmtCommand.{NmtCommand};
 ghost use Rattle.nmt_boot.specs.Ahead.{IsAhead};
 ghost use Rattle.nmt_boot.specs.Beats.{IsMultiple, IsOnTime, due_messages};
@@ -20,7 +20,7 @@ ghost use Rattle.manager_nodes.specs.Table.{node_at};
 ghost use Rattle.nmt_boot.specs.Manager.{timers};
 ghost use Rattle.nmt_boot.specs.Periodic.{frame_of, messages, period_of, purpose_of, sync_number};
 ghost use Rattle.nmt_boot.specs.declared.periodic_message.PeriodicMessage.{PeriodicMessage as Message};
-ghost use Rattle.nmt_boot.specs.Starts.{HasNodeNumbers, KeepsStart, StartsNetwork};
+ghost use Rattle.nmt_boot.specs.Starts.{HasNodeNumbers, KeepsStart, StartsNetwork, network_starts};
 
 /// Before the first of its moments nothing happens to the manager, and nothing is noted.
 #[tactic(auto, using(crate::proofs::MomentLemmas::quiet))]
@@ -100,16 +100,20 @@ pub fn sync_messages_are_numbered()
         → network.sync_counter ≡ 0 → Contains (timers t m).0.waiting (sync_with []) }
 {}
 
-/// A frame leaves the start of the network as it is, or starts the network: as a whole by one command, where that
-/// wasn't done before and each mandatory node is configured now. So that never happens where each node is started by
-/// itself, nor twice. Timers start nothing, and a command of the scenario is none of the manager's own.
-#[tactic(auto, using(crate::proofs::StartLemmas::frame_starts, crate::proofs::StartLemmas::each_by_itself, crate::proofs::StartLemmas::at_most_once, crate::proofs::StartLemmas::timers_keep))]
+/// A frame leaves the start of the network as it is, or starts the network: as a whole by one command, or by one to each
+/// node that is configured, where that wasn't done before and each mandatory node is configured now. So that never
+/// happens where each node is started by itself, nor twice; and where configured nodes are started, no command goes to
+/// all. Timers start nothing, and a command of the scenario is none of the manager's own.
+#[tactic(auto, using(crate::proofs::StartLemmas::frame_starts, crate::proofs::StartLemmas::each_by_itself, crate::proofs::StartLemmas::at_most_once, crate::proofs::StartLemmas::timers_keep, crate::proofs::StartLemmas::none_of_all))]
 pub fn the_network_is_started_once()
     ensures frames { (image : Image) (t : ℕ) (frame : BaseFrame) (m : State) → HasNodeNumbers m
         → KeepsStart m (outcome (after_frame t frame m) image).0
         ⊎ StartsNetwork m (outcome (after_frame t frame m) image).0 }
     ensures each_node { (image : Image) (t : ℕ) (frame : BaseFrame) (m : State) → HasNodeNumbers m
         → m.startup.mode ≡ EachNode → KeepsStart m (outcome (after_frame t frame m) image).0 }
+    ensures configured { (image : Image) (t : ℕ) (frame : BaseFrame) (m : State) → HasNodeNumbers m
+        → m.startup.mode ≡ ConfiguredNodes
+        → network_starts (outcome (after_frame t frame m) image).0.waiting ≡ network_starts m.waiting }
     ensures once { (image : Image) (t : ℕ) (frame : BaseFrame) (m : State) → HasNodeNumbers m
         → m.startup.is_started ≡ true → KeepsStart m (outcome (after_frame t frame m) image).0 }
     ensures timers { (t : ℕ) (m : State) → KeepsStart m (timers t m).0 }

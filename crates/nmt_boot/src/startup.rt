@@ -10,7 +10,7 @@ use std::alloc::{AllocError, Global};
 use std::marker::Model;
 use std::rc::Rc;
 
-/// When the manager starts nodes, which of them are mandatory, and whether it has started the network as a whole
+/// When the manager starts nodes, which of them are mandatory, and whether it has started the network
 /// (CiA 302). Copies share the numbers of the mandatory nodes.
 #[derive(Drop)]
 pub(crate) struct Startup {
@@ -91,6 +91,13 @@ impl Startup {
             && self.mandatory() == other.mandatory()
     }
 
+    /// When it starts nodes.
+    pub(crate) fn mode(&self) -> StartMode
+        ensures { result ≡ self.now.mode }
+    {
+        self.mode
+    }
+
     /// Whether each node that is configured is started by itself.
     pub(crate) fn starts_each(&self) -> bool
         ensures { result ≡ rules.starts_each self.now }
@@ -98,10 +105,11 @@ impl Startup {
         match self.mode {
             StartMode::EachNode => true,
             StartMode::WholeNetwork => self.is_started,
+            StartMode::ConfiguredNodes => self.is_started,
         }
     }
 
-    /// Whether the whole network is started, where a node was configured. Takes constant time where each node is
+    /// Whether the network is started, where a node was configured. Takes constant time where each node is
     /// started by itself, and else time by the number of nodes times that of the mandatory ones.
     pub(crate) fn starts_network(&self, nodes: &NodeTable) -> bool
         ensures { result ≡ rules.starts_network self.now nodes.now }
@@ -109,7 +117,7 @@ impl Startup {
         !self.starts_each() && nodes.all_configured(self.mandatory())
     }
 
-    /// The whole network is started.
+    /// The network is started.
     pub(crate) fn start(&mut self)
         ensures { self.new ≡ record self.old { is_started = true } }
     {

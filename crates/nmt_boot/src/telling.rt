@@ -6,12 +6,14 @@ ghost use Rattle.manager_nodes.specs.Table.{notes_of, sdo_frames};
 ghost use Rattle.can_frame.specs.WaitingFrames.{waiting as queued};
 ghost use Rattle.can_frame.specs.declared.purpose.Purpose.TheVariants as purposes;
 ghost use Rattle.nmt_boot.specs.Startup.{nmt_frame as frame_of_command, start_frames, startup_after};
-ghost use Rattle.nmt_boot.specs.Startup.{frames_of_configured, startup_of_configured};
+ghost use Rattle.nmt_boot.specs.Startup.{frames_of_configured, network_start_frames, start_if_configured, starts_of_configured};
+ghost use Rattle.nmt_boot.specs.Startup.{startup_of_configured};
 
 use crate::startup::Startup;
 use can_frame::{Frame, Pending, Purpose, identifiers};
 use co_scenario::NmtCommand;
-use manager_nodes::{NodeTable, Sent, note, send_request};
+use image_parts::StartMode;
+use manager_nodes::{Booting, NodeTable, Sent, note, send_request};
 use node_boot::{NoteKind, Notes};
 use std::alloc::AllocError;
 
@@ -33,8 +35,42 @@ pub(crate) fn send_command(
     waiting.add(Purpose::Nmt, nmt_frame(command, node))
 }
 
-/// Queues what starts nodes where a node was configured: the start of that node, or of the whole network, or
-/// nothing.
+/// Queues the start of a node, where it is configured.
+fn start_if_configured(waiting: &mut Pending, node: &Booting) -> Result<(), AllocError>
+    ensures { OnOk result (waiting.new ≡ waiting.old ++ start_if_configured node.now) }
+{
+    if node.has_booted() {
+        send_command(waiting, NmtCommand::Start, node.number)?;
+    }
+    Ok(())
+}
+
+/// Queues the start of each node that is configured, by number.
+fn start_each(waiting: &mut Pending, nodes: &[Booting]) -> Result<(), AllocError>
+    ensures { OnOk result (waiting.new ≡ waiting.old ++ starts_of_configured nodes.now) }
+{
+    for node in nodes {
+        start_if_configured(waiting, node)?;
+    }
+    Ok(())
+}
+
+/// Queues what starts the network.
+fn start_network(
+    waiting: &mut Pending,
+    mode: StartMode,
+    nodes: &NodeTable,
+) -> Result<(), AllocError>
+    ensures { OnOk result (waiting.new ≡ waiting.old ++ network_start_frames mode nodes.now) }
+{
+    match mode {
+        StartMode::EachNode => Ok(()),
+        StartMode::WholeNetwork => send_command(waiting, NmtCommand::Start, 0),
+        StartMode::ConfiguredNodes => start_each(waiting, nodes.as_slice()),
+    }
+}
+
+/// Queues what starts nodes where a node was configured: the start of that node, or of the network, or nothing.
 #[tactic(auto, unfolding(crate::specs::Startup::frames_of_configured, crate::specs::Startup::startup_of_configured))]
 fn start_configured(
     waiting: &mut Pending,
@@ -50,7 +86,7 @@ fn start_configured(
     }
     if startup.starts_network(nodes) {
         startup.start();
-        return send_command(waiting, NmtCommand::Start, 0);
+        return start_network(waiting, startup.mode(), nodes);
     }
     Ok(())
 }

@@ -13,8 +13,9 @@ use co_values::{DataType, number_in, value_of};
 use eds_device::DataSheet;
 use std::alloc::{AllocError, Global};
 
-/// Whether a number is below the low limit of an entry or above its high one.
-fn is_outside(entry: &Entry, number: i128) -> bool
+/// Whether a number is below the low limit of an entry or above its high one (CiA 306); an entry without a
+/// limit has none.
+pub fn is_outside(entry: &Entry, number: i128) -> bool
     ensures { result ≡ is_outside entry.now number }
 {
     if let Some(low) = entry.low

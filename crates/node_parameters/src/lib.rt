@@ -8,7 +8,7 @@ mod parameter_fault;
 mod parameters;
 mod params;
 
-pub use judgement::{judge, judge_set};
+pub use judgement::{is_outside, judge, judge_set};
 pub use parameter_fault::ParameterFault;
 pub use parameters::{parameter_text, writes};
 pub use params::Params;

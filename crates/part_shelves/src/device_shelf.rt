@@ -13,6 +13,7 @@ ghost use Rattle.part_shelves.specs.Slots.{fresh_at, fresh_slot, text_kept, with
 use crate::eds_text::keep_device;
 use crate::seat::Seat;
 use base::{Shared, share_of};
+use co_dict::Shape;
 use co_project::Project;
 use eds_dcf::Template;
 use eds_device::DataSheet;
@@ -97,7 +98,7 @@ impl DeviceShelf {
         seat.set_fresh(fresh);
     }
 
-    /// The text of a name may be another one now. What was found of its device for many nodes and DCFs is let go.
+    /// The text of a name may be another one now. The template of its DCFs is let go.
     pub fn mark(&mut self, name: &[u8])
         ensures { self.new ≡ with_fresh self.old name.now false }
     {
@@ -115,7 +116,7 @@ impl DeviceShelf {
     }
 
     /// The device of a name that is kept, with what it has alike at every node: that is found at the first
-    /// asking, and kept till the name is marked. Takes time by the logarithm of the number of names, and at the
+    /// asking, and kept till the text is another one. Takes time by the logarithm of the number of names, and at the
     /// first asking time and memory by the number of entries, and time by its logarithm; want of memory is the
     /// only error.
     pub fn common(
@@ -190,6 +191,14 @@ impl DeviceShelf {
         }
     }
 
+    /// The shape that the device of a name has at every node, if it is known.
+    fn shape(&self, name: &[u8]) -> Result<Option<Shape>, AllocError> {
+        match self.get(name) {
+            Some(seat) => seat.shape(),
+            None => Ok(None),
+        }
+    }
+
     /// Reads the text of a name, and keeps its device.
     fn read(&mut self, alloc: Global, name: &[u8], text: &[u8]) -> Result<(), AllocError>
         requires { device_of text.now ≡ Ok (content_of text.now) }
@@ -197,8 +206,9 @@ impl DeviceShelf {
         ensures err { OnErr result (self.new ≡ self.old) }
     {
         let kept = keep_device(alloc, text)?;
+        let before = self.shape(name)?;
         let name = Vec::from_slice(alloc, name)?;
-        self.put(name, Seat::new(kept))
+        self.put(name, Seat::new(kept, before))
     }
 
     /// Reads the text that a project has under a name anew if it is another one, and lets the device

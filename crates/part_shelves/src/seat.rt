@@ -6,18 +6,21 @@ ghost use Rattle.part_shelves.specs.Slots.{fresh_slot};
 use crate::device_slot::DeviceSlot;
 use crate::eds_text::EdsText;
 use base::Shared;
+use co_dict::Shape;
 use eds_dcf::Template;
 use eds_device::DataSheet;
 use kept_values::Kept;
 use std::alloc::{AllocError, Global};
 use std::marker::Model;
 
-/// A device that is kept. Once it was asked for, and until the text may be another one, the same device stands
-/// beside it with what it has alike at every node; and once it was asked for twice, the template of its DCFs.
+/// A device that is kept. Once it was asked for, the same device stands beside it with what it has alike at every
+/// node; and once it was asked for twice, and until the text may be another one, the template of its DCFs.
 #[derive(Drop)]
 pub struct Seat {
     slot: DeviceSlot,
     common: Option<Shared<DataSheet>>,
+    /// The shape of a device that had this place before: an equal one is shared.
+    before: Option<Shape>,
     /// Whether a template was asked for.
     asked: bool,
     template: Option<Shared<Template>>,
@@ -37,13 +40,14 @@ impl Model for Seat {
 }
 
 impl Seat {
-    /// A device of now.
-    pub fn new(kept: Kept<EdsText, Shared<DataSheet>>) -> Seat
+    /// A device of now, and the shape of the one that had its place before, if that is known.
+    pub fn new(kept: Kept<EdsText, Shared<DataSheet>>, before: Option<Shape>) -> Seat
         ensures { result ≡ fresh_slot kept }
     {
         Seat {
             slot: DeviceSlot { kept, fresh: true },
             common: None,
+            before,
             asked: false,
             template: None,
         }
@@ -70,12 +74,27 @@ impl Seat {
         self.slot.kept.value()
     }
 
-    /// Sets or takes the mark. With a mark the device for many nodes and the template go.
+    /// The shape that it has at every node, or that the device before had, if one is known. Takes constant time and
+    /// no memory; the only error is that the count of handles is full.
+    pub fn shape(&self) -> Result<Option<Shape>, AllocError> {
+        let kept = match &self.common {
+            Some(common) => common.get().kept_shape(),
+            None => self.before.as_ref(),
+        };
+        match kept {
+            Some(shape) => {
+                let shape = shape.share()?;
+                Ok(Some(shape))
+            }
+            None => Ok(None),
+        }
+    }
+
+    /// Sets or takes the mark. With a mark the template goes.
     pub fn set_fresh(&mut self, fresh: bool)
         ensures { self.new ≡ record self.old { fresh = fresh } }
     {
         if !fresh {
-            self.common = None;
             self.asked = false;
             self.template = None;
         }
@@ -91,10 +110,11 @@ impl Seat {
         if let Some(common) = &self.common {
             return common.share();
         }
-        let device = self.device().get().with_common()?;
+        let device = self.device().get().with_common(self.before.as_ref())?;
         let device = Shared::new(alloc, device)?;
         let common = device.share()?;
         self.common = Some(common);
+        self.before = None;
         Ok(device)
     }
 

@@ -1,8 +1,16 @@
+mod EachNumber
+mod Held
 mod Mappings
 pub mod Numbered
 pub mod OrderLemmas
-mod Sizes
+pub mod Sizes
 mod Tabled
+mod Used
 pub mod Values
+mod VendorJoined
+pub mod VendorOrder
+pub mod VendorSizes
+pub mod VendorValues
 pub mod WhoseLemmas
+pub mod WhoseVendor
 pub mod Rising

@@ -8,7 +8,7 @@ use Rattle.concise_dcf.specs.declared.write.Write.{Write}
 use Rattle.pdo_stations.specs.declared.mapped.Mapped.{Mapped}
 use Rattle.pdo_plan.specs.Mapping.{mapped_bytes}
 use Rattle.pdo_links.specs.Tables.{AreMapped}
-use Rattle.pdo_links.specs.Writes.{mapped_writes, write_at}
+use Rattle.pdo_links.specs.PdoWrites.{mapped_writes, write_at}
 
 pub none_mapped : AreMapped []
 unfolding AreMapped

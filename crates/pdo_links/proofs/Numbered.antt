@@ -12,7 +12,7 @@ use Rattle.node_parameters.proofs.WrittenLemmas.{from_filter_map}
 use Rattle.pdo_plan.specs.declared.clean.Clean.{Clean}
 use Rattle.pdo_plan.specs.declared.consumer.Consumer.{Consumer}
 use Rattle.pdo_links.specs.Tables.{IsTableOf}
-use Rattle.pdo_links.specs.Writes.{tpdo_of, rpdo_of}
+use Rattle.pdo_links.specs.PdoWrites.{tpdo_of, rpdo_of}
 use Rattle.pdo_links.proofs.Tabled.{tabled}
 
 pub append_none : {X : Type 0} (xs : List X) → xs ++ [] ≡ xs
@@ -29,7 +29,7 @@ module _ {X Y : Type 0} (shows : X → Y) (entries : List (ℕ × X)) (pdos : Li
 
 -- ---- the messages behind PDOs
 
-behind : {Y : Type 0} (h : Clean → Option (ℕ × Y)) (cs : List Clean) (number : ℕ) (y : Y)
+pub behind : {Y : Type 0} (h : Clean → Option (ℕ × Y)) (cs : List Clean) (number : ℕ) (y : Y)
     → lookup (is_at (nat_cmp number)) (filter_map h cs) ≡ Some y
     → (c : Clean) × Contains cs c × (h c ≡ Some (number, y))
 behind h cs number y e = from_filter_map h cs (number, y)

@@ -16,8 +16,9 @@ use Rattle.pdo_stations.specs.declared.mapped.Mapped.{Mapped}
 use Rattle.pdo_stations.specs.Devices.{takes_unsigned}
 use Rattle.cia301.specs.PdoObjects.{mapping_object, rpdo_object, tpdo_object}
 use Rattle.pdo_plan.specs.Plan.{IsWithin}
-use Rattle.pdo_links.specs.Order.{is_to, to_object, AreBetween, IsConfigured}
-use Rattle.pdo_links.specs.Writes.{write_at, cob_write, mapped_writes, mapping_writes, start_write, time_write, taken_type}
+use Rattle.pdo_links.specs.Order.{is_to, to_object, AreBetween, IsConfigured, IsMapped, IsSwitched}
+use Rattle.pdo_links.specs.PdoWrites.{write_at, cob_write, mapped_writes, mapping_writes, taken_type}
+use Rattle.pdo_links.specs.Writes.{start_write, time_write}
 use Rattle.pdo_links.specs.Writes.{tpdo_writes, rpdo_writes}
 
 -- ---- lists
@@ -52,7 +53,7 @@ module _ (p : Write → Bool) (last : Write) (marks : p last ≡ true) where
       let e : p x ≡ false = ap p (sym same) ∙ n.0 in
       (ap (λ b. cond b (x ∷ filter p before) (filter p before)) e ∙ r.0, r.1)
 
-  between : (first : Write) (middle : List Write) → p first ≡ true → filter p middle ≡ []
+  pub between : (first : Write) (middle : List Write) → p first ≡ true → filter p middle ≡ []
       → AreBetween p first last (first ∷ (middle ++ last ∷ []))
   between first middle mark none [] after w split other = let same : first ≡ w = cc
       in let e : p w ≡ true = ap p (sym same) ∙ mark in cc
@@ -66,19 +67,19 @@ module _ (p : Write → Bool) (last : Write) (marks : p last ≡ true) where
         r.1,
       )
 
-append_none : (ws : List Write) → ws ++ [] ≡ ws
+pub append_none : (ws : List Write) → ws ++ [] ≡ ws
 append_none [] = refl
 append_none (w ∷ ws) = ap (λ (zs : List Write). w ∷ zs) (append_none ws)
 
 -- ---- numbers
 
-same_number : (n : ℕ) → (n == n) ≡ true
+pub same_number : (n : ℕ) → (n == n) ≡ true
 same_number n = grind arith
 
-other_number : (m n : ℕ) → m < n → (n == m) ≡ false
+pub other_number : (m n : ℕ) → m < n → (n == m) ≡ false
 other_number m n lt = grind arith
 
-number_other : (m n : ℕ) → m < n → (m == n) ≡ false
+pub number_other : (m n : ℕ) → m < n → (m == n) ≡ false
 number_other m n lt = grind arith
 
 and_false : (b : Bool) → b && false ≡ false
@@ -108,7 +109,7 @@ module _ (object index : ℕ) (apart : (index == object) ≡ false) where
   no_entry_cobs first [] = refl
   no_entry_cobs first (m ∷ ms) = rw (apart, and_false (first == 1)) (no_entry_cobs (first + 1) ms)
 
-  no_cobs : (mapping : List Mapped) → filter (is_to object 1) (mapping_writes index mapping) ≡ []
+  pub no_cobs : (mapping : List Mapped) → filter (is_to object 1) (mapping_writes index mapping) ≡ []
   no_cobs mapping = rw (
     filter-append (is_to object 1) (mapped_writes index 1 mapping)
         (write_at index 0 (length mapping ∷ []) ∷ []),
@@ -139,7 +140,7 @@ module _ (object : ℕ) where
   all_entries first [] = refl
   all_entries first (m ∷ ms) = rw (same_number object, all_entries (first + 1) ms) refl
 
-  all_mapping : (mapping : List Mapped) → to_object object (mapping_writes object mapping)
+  pub all_mapping : (mapping : List Mapped) → to_object object (mapping_writes object mapping)
       ≡ mapping_writes object mapping
   all_mapping mapping = rw (
     same_number object,
@@ -284,23 +285,36 @@ high n le = grind arith
 low : (n : ℕ) → n < off_bit → not (is_valid n) ≡ false
 low n lt = grind arith
 
--- a PDO that is switched off and on so, with its mapping
-configured : (object off on identifier : ℕ) (mapping : List Mapped) (ws : List Write)
+-- a PDO that is switched off and on so
+pub switched : (object off on identifier : ℕ) (ws : List Write)
     → AreBetween (is_to object 1) (cob_write object off) (cob_write object on) ws
-    → off_bit ≤ off → off < 4294967296 → on < off_bit → on % 0x800 ≡ identifier
-    → to_object (mapping_object object) ws ≡ mapping_writes (mapping_object object) mapping
-    → IsConfigured object identifier mapping ws
-configured object off on identifier mapping ws meanwhile is_high fits is_low rest maps = record {
+    → off_bit ≤ off → off < 4294967296 → on < off_bit → on % 0x800 ≡ identifier → IsSwitched object identifier ws
+switched object off on identifier ws meanwhile is_high fits is_low rest = record {
   off = cob_write object off;
   on = cob_write object on;
   meanwhile = meanwhile;
   is_switched_off = ap (λ (n : ℕ). not (is_valid n)) (reads_back off fits) ∙ high off is_high;
   is_switched_on = ap (λ (n : ℕ). not (is_valid n)) (reads_back on (omega arith)) ∙ low on is_low;
   has_identifier = ap (λ (n : ℕ). n % 0x800) (reads_back on (omega arith)) ∙ rest;
+}
+
+-- and mapped so
+pub mapped_so : (object : ℕ) (mapping : List Mapped) (ws : List Write)
+    → to_object (mapping_object object) ws ≡ mapping_writes (mapping_object object) mapping
+    → IsMapped object mapping ws
+mapped_so object mapping ws maps = record {
   counted = subst (AreBetween (is_to (mapping_object object) 0) (write_at (mapping_object object) 0 (0 ∷ []))
       (write_at (mapping_object object) 0 (length mapping ∷ []))) (sym maps) (counts_around (mapping_object object) mapping);
   entries = ap (filter (λ w. not (is_to (mapping_object object) 0 w))) maps ∙ entries_left (mapping_object object) mapping;
 }
+
+configured : (object off on identifier : ℕ) (mapping : List Mapped) (ws : List Write)
+    → AreBetween (is_to object 1) (cob_write object off) (cob_write object on) ws
+    → off_bit ≤ off → off < 4294967296 → on < off_bit → on % 0x800 ≡ identifier
+    → to_object (mapping_object object) ws ≡ mapping_writes (mapping_object object) mapping
+    → IsConfigured object identifier mapping ws
+configured object off on identifier mapping ws meanwhile is_high fits is_low rest maps =
+    (switched object off on identifier ws meanwhile is_high fits is_low rest, mapped_so object mapping ws maps)
 
 pub tpdo_configured : (ss : List Section) (node : ℕ) (c : Clean) → IsWithin c
     → IsConfigured (tpdo_object c.message.tpdo) c.identifier c.mapping (tpdo_writes ss node c)

@@ -1,13 +1,11 @@
 -- The sizes and the number of the writes of PDOs.
-use Rattle.std.proofs.Common.{◌≡◌, ℕ, zero, suc, ◌+◌, ◌*◌, ◌≤◌, Bool, true, false, List, [], ◌∷◌, ◌++◌, length}
-use Rattle.std.proofs.Common.{length-append, All, Option, Some, None, refl, arith}
+use Rattle.std.proofs.Common.{◌≡◌, ℕ, ◌+◌, ◌≤◌, Bool, true, false, List, [], ◌∷◌, ◌++◌, length}
+use Rattle.std.proofs.Common.{Some, arith}
 use Rattle.std.specs.Prelude.{if◌then◌else◌}
 use Rattle.std.specs.BTreeMap.{is_at}
-use Rattle.std.specs.List.{flat_map, range_with_len}
 use Rattle.std.specs.Map.{lookup}
 use Rattle.std.specs.Option.{option_map_or}
 use Rattle.std.specs.Ordering.{nat_cmp}
-use Rattle.std.proofs.lemmas.List.Elements.{All-nil, All-cons, All-append}
 use Rattle.byteorder.specs.Endian.{little_bytes}
 use Rattle.co_values.specs.declared.form.Width.TheVariants.{Bits8, Bits16}
 use Rattle.cia301.specs.CobIds.{no_rtr_bit, off_bit}
@@ -21,40 +19,17 @@ use Rattle.pdo_stations.specs.Devices.{takes_unsigned}
 use Rattle.cia301.specs.PdoObjects.{mapping_object, rpdo_object, tpdo_object}
 use Rattle.pdo_plan.specs.Mapping.{mapped_bytes}
 use Rattle.pdo_links.specs.Tables.{AreFew}
-use Rattle.pdo_links.specs.Writes.{write_at, cob_write, mapped_writes, mapping_writes, start_write, time_write, taken_type}
-use Rattle.pdo_links.specs.Writes.{tpdo_writes, rpdo_writes, at_number, by_number}
+use Rattle.pdo_links.specs.VendorWrites.{each_by_number}
+use Rattle.pdo_links.specs.PdoWrites.{write_at, cob_write, mapped_writes, mapping_writes, taken_type}
+use Rattle.pdo_links.specs.Writes.{start_write, time_write}
+use Rattle.pdo_links.specs.Writes.{tpdo_writes, rpdo_writes, by_number}
+use Rattle.pdo_links.proofs.EachNumber.{each_few}
+use Rattle.pdo_links.proofs.Held.{at_most, holds_both, holds_none, holds_one, Holds, IsSized}
 
-abbrev IsSized : Write → Type 0
-IsSized w = (1 ≤ length w.bytes) × (length w.bytes ≤ 512)
-
--- so many writes, each of a good size
-record Holds (n : ℕ) (ws : List Write) : Type 0 where
-  sizes : All IsSized ws
-  count : length ws ≤ n
-
-holds_none : Holds 0 []
-holds_none = record { sizes = All-nil IsSized; count = omega arith }
-
-holds_one : (n : ℕ) (w : Write) (ws : List Write) → IsSized w → Holds n ws → Holds (1 + n) (w ∷ ws)
-holds_one n w ws sized h = record {
-  sizes = All-cons IsSized w ws sized h.sizes;
-  count = let c : length ws ≤ n = h.count
-      in omega arith;
-}
-
-holds_both : (m n : ℕ) (xs ys : List Write) → Holds m xs → Holds n ys → Holds (m + n) (xs ++ ys)
-holds_both m n xs ys a b = record {
-  sizes = All-append IsSized xs ys a.sizes b.sizes;
-  count = let c : length xs ≤ m = a.count in let d : length ys ≤ n = b.count in omega (arith, length-append xs ys);
-}
-
-at_most : (m n : ℕ) (ws : List Write) → m ≤ n → Holds m ws → Holds n ws
-at_most m n ws le h = record { sizes = h.sizes; count = let c : length ws ≤ m = h.count in omega arith }
-
-byte_sized : (object sub n : ℕ) → IsSized (write_at object sub (n ∷ []))
+pub byte_sized : (object sub n : ℕ) → IsSized (write_at object sub (n ∷ []))
 byte_sized object sub n = (omega arith, omega arith)
 
-word_sized : (object sub n : ℕ) → IsSized (write_at object sub (little_bytes 4 n))
+pub word_sized : (object sub n : ℕ) → IsSized (write_at object sub (little_bytes 4 n))
 word_sized object sub n = (omega arith, omega arith)
 
 time_held : (ss : List Section) (node object sub time : ℕ) → Holds 1 (time_write ss node object sub time)
@@ -79,7 +54,7 @@ entries_held object first (m ∷ ms) =
     (holds_one (length ms) (write_at object first (mapped_bytes m)) (mapped_writes object (first + 1) ms)
     (omega arith, omega arith) (entries_held object (first + 1) ms))
 
-mapping_held : (object : ℕ) (mapping : List Mapped) → length mapping ≤ 64 → Holds 66 (mapping_writes object mapping)
+pub mapping_held : (object : ℕ) (mapping : List Mapped) → length mapping ≤ 64 → Holds 66 (mapping_writes object mapping)
 mapping_held object mapping short =
     at_most (1 + (length mapping + 1)) 66 (mapping_writes object mapping) (omega arith)
     (holds_one (length mapping + 1) (write_at object 0 (0 ∷ []))
@@ -123,26 +98,14 @@ rpdo_held c k short =
 
 -- ---- by number
 
-module _ {Y : Type 0} (f : Y → List Write) (pdos : List (ℕ × Y))
-    (each : (number : ℕ) (y : Y) → lookup (is_at (nat_cmp number)) pdos ≡ Some y → Holds 72 (f y)) where
-  number_held : (number : ℕ) → Holds 72 (at_number f pdos number)
-  number_held number = by (lookup (is_at (nat_cmp number)) pdos) refl
-    where
-      by : (o : Option Y) → lookup (is_at (nat_cmp number)) pdos ≡ o → Holds 72 (option_map_or f o [])
-      by None is = at_most 0 72 [] (omega arith) holds_none
-      by (Some y) is = each number y is
+nothing_held : Holds 72 []
+nothing_held = at_most 0 72 [] (omega arith) holds_none
 
-  range_held : (first n : ℕ) → Holds (n * 72) (flat_map (at_number f pdos) (range_with_len first n))
-  range_held first zero = at_most 0 (0 * 72) [] (omega arith) holds_none
-  range_held first (suc n) =
-      at_most (72 + n * 72) (suc n * 72) (flat_map (at_number f pdos) (range_with_len first (suc n))) (omega arith)
-      (holds_both 72 (n * 72) (at_number f pdos first) (flat_map (at_number f pdos) (range_with_len (first + 1) n))
-      (number_held first) (range_held (first + 1) n))
-
-  few : AreFew (by_number f pdos)
-  unfolding by_number
-  few = let h : Holds (512 * 72) (flat_map (at_number f pdos) (range_with_len 1 512)) = range_held 1 512
-      in record { sizes = h.sizes; count = h.count }
+few : {Y : Type 0} (f : Y → List Write) (pdos : List (ℕ × Y))
+    → ((number : ℕ) (y : Y) → lookup (is_at (nat_cmp number)) pdos ≡ Some y → Holds 72 (f y))
+    → AreFew (by_number f pdos)
+unfolding by_number each_by_number
+few f pdos each = each_few f (λ number. []) pdos each (λ number. nothing_held)
 
 pub few_tpdos : (ss : List Section) (node : ℕ) (pdos : List (ℕ × Clean))
     → ((number : ℕ) (c : Clean) → lookup (is_at (nat_cmp number)) pdos ≡ Some c → length c.mapping ≤ 64)

@@ -16,7 +16,7 @@ use Rattle.pdo_plan.specs.declared.outcome.Outcome.TheVariants.{Planned}
 use Rattle.pdo_plan.specs.declared.planned_message.PlannedMessage.{PlannedMessage}
 use Rattle.pdo_plan.specs.Plan.{clean, clean_of}
 use Rattle.pdo_links.specs.Tables.{IsTableOf}
-use Rattle.pdo_links.specs.Writes.{rpdo_of}
+use Rattle.pdo_links.specs.PdoWrites.{rpdo_of}
 
 -- what a list has first in its front counts
 lookup-append : {K Y : Type 0} (test : K → Bool) (xs ys : List (K × Y))

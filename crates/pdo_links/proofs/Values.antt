@@ -30,7 +30,8 @@ use Rattle.pdo_stations.proofs.UnsignedLemmas.{unsigned_form}
 use Rattle.pdo_plan.specs.Mapping.{mapped_bytes}
 use Rattle.pdo_plan.specs.Plan.{HasPdo}
 use Rattle.pdo_links.specs.Tables.{AreMapped, AreValues}
-use Rattle.pdo_links.specs.Writes.{write_at, cob_write, mapped_writes, mapping_writes, start_write, time_write, taken_type}
+use Rattle.pdo_links.specs.PdoWrites.{write_at, cob_write, mapped_writes, mapping_writes, taken_type}
+use Rattle.pdo_links.specs.Writes.{start_write, time_write}
 use Rattle.pdo_links.specs.Writes.{tpdo_writes, rpdo_writes}
 
 -- ---- tests
@@ -76,21 +77,26 @@ pub record IsTaken (ss : List Section) (node : ℕ) (w : Write) : Type 0 where
   pub long : length w.bytes ≡ octets width
 
 -- the same of the plan's words
-has_taken : (ss : List Section) (node index sub : ℕ) (width : Width) (bytes : List ℕ)
-    → has_unsigned (devices_of ((node, ss) ∷ [])) node width (index, sub) ≡ true → AreBytes bytes
-    → length bytes ≡ octets width → IsTaken ss node (write_at index sub bytes)
-has_taken ss node index sub width bytes test are long =
-    record { width = width; takes = by (node == node) (same_number node) test; are = are; long = long }
+has_sound : (ss : List Section) (node : ℕ) (width : Width) (place : ℕ × ℕ)
+    → has_unsigned (devices_of false ((node, ss) ∷ [])) node width place ≡ true
+    → option_map_or (takes_unsigned width) (entry_at ss node place.0 place.1) false ≡ true
+has_sound ss node width place test = by (node == node) (same_number node) test
   where
     by : (b : Bool) → b ≡ true → option_map_or (takes_unsigned width)
-        (option_and_then (λ (s : List Section). entry_at s node index sub) (cond b (Some ss) None)) false ≡ true
-        → option_map_or (takes_unsigned width) (entry_at ss node index sub) false ≡ true
+        (option_and_then (λ (s : List Section). entry_at s node place.0 place.1) (cond b (Some ss) None)) false ≡ true
+        → option_map_or (takes_unsigned width) (entry_at ss node place.0 place.1) false ≡ true
     by true is e = e
     by false is e = cc
 
+has_taken : (ss : List Section) (node index sub : ℕ) (width : Width) (bytes : List ℕ)
+    → has_unsigned (devices_of false ((node, ss) ∷ [])) node width (index, sub) ≡ true → AreBytes bytes
+    → length bytes ≡ octets width → IsTaken ss node (write_at index sub bytes)
+has_taken ss node index sub width bytes test are long =
+    record { width = width; takes = has_sound ss node width (index, sub) test; are = are; long = long }
+
 -- ---- bytes
 
-one_byte : (n : ℕ) → n < 256 → AreBytes (n ∷ [])
+pub one_byte : (n : ℕ) → n < 256 → AreBytes (n ∷ [])
 one_byte n lt zero = lt
 one_byte n lt (suc i) = omega arith
 
@@ -99,7 +105,7 @@ two_bytes n zero = omega arith
 two_bytes n (suc zero) = omega arith
 two_bytes n (suc (suc i)) = omega arith
 
-four_bytes : (n : ℕ) → AreBytes (little_bytes 4 n)
+pub four_bytes : (n : ℕ) → AreBytes (little_bytes 4 n)
 four_bytes n zero = omega arith
 four_bytes n (suc zero) = omega arith
 four_bytes n (suc (suc zero)) = omega arith
@@ -121,19 +127,19 @@ module _ (ss : List Section) where
   both_values xs ys a b = All-append IsValue xs ys a b
 
   module _ (node : ℕ) where
-    abbrev AreTaken : List Write → Type 0
+    abbrev pub AreTaken : List Write → Type 0
     AreTaken ws = All (IsTaken ss node) ws
 
-    one_taken : (w : Write) (ws : List Write) → IsTaken ss node w → AreTaken ws → AreTaken (w ∷ ws)
+    pub one_taken : (w : Write) (ws : List Write) → IsTaken ss node w → AreTaken ws → AreTaken (w ∷ ws)
     one_taken w ws is rest = All-cons (IsTaken ss node) w ws is rest
 
-    none_taken : AreTaken []
+    pub none_taken : AreTaken []
     none_taken = All-nil (IsTaken ss node)
 
-    both_taken : (xs ys : List Write) → AreTaken xs → AreTaken ys → AreTaken (xs ++ ys)
+    pub both_taken : (xs ys : List Write) → AreTaken xs → AreTaken ys → AreTaken (xs ++ ys)
     both_taken xs ys a b = All-append (IsTaken ss node) xs ys a b
 
-    taken_values : (ws : List Write) → AreTaken ws → AreValues ss ws
+    pub taken_values : (ws : List Write) → AreTaken ws → AreValues ss ws
     unfolding AreValues
     taken_values ws all =
         All-weaker (IsTaken ss node) IsValue (λ w is. taken_fits ss node w.index w.sub is.width w.bytes is.takes is.are
@@ -167,37 +173,53 @@ module _ (ss : List Section) where
             }) none_taken
         by false is = none_taken
 
-    entries_taken : (object first : ℕ) (mapping : List Mapped)
-        → list_all (λ sub. has_unsigned (devices_of ((node, ss) ∷ [])) node Bits32 (object, sub))
-        (range_with_len first (length mapping)) ≡ true
-        → AreMapped mapping → AreTaken (mapped_writes object first mapping)
-    unfolding AreMapped
-    entries_taken object first [] test are = none_taken
-    entries_taken object first (m ∷ ms) test are =
-        let P : Mapped → Type 0 = λ m. AreBytes (mapped_bytes m) in
-        let here : has_unsigned (devices_of ((node, ss) ∷ [])) node Bits32 (object, first) ≡ true = first_of _ _ test in
-        let rest : list_all (λ sub. has_unsigned (devices_of ((node, ss) ∷ [])) node Bits32 (object, sub))
-        (range_with_len (first + 1) (length ms)) ≡ true = second_of _ _ test in
-        one_taken (write_at object first (mapped_bytes m)) (mapped_writes object (first + 1) ms)
-        (has_taken ss node object first Bits32 (mapped_bytes m) here (All-head P m ms are) refl)
-        (entries_taken object (first + 1) ms rest (All-tail P m ms are))
+    -- entries of which a test says that they take a number
+    module _ (takes : Width → ℕ × ℕ → Bool)
+        (sound : (width : Width) (place : ℕ × ℕ) → takes width place ≡ true
+        → option_map_or (takes_unsigned width) (entry_at ss node place.0 place.1) false ≡ true) where
+      pub write_taken : (index sub : ℕ) (width : Width) (bytes : List ℕ) → takes width (index, sub) ≡ true
+          → AreBytes bytes → length bytes ≡ octets width → IsTaken ss node (write_at index sub bytes)
+      write_taken index sub width bytes test are long =
+          record { width = width; takes = sound width (index, sub) test; are = are; long = long }
 
-    mapping_taken : (object : ℕ) (mapping : List Mapped)
-        → has_mapping (devices_of ((node, ss) ∷ [])) node object (length mapping) ≡ true
+      entries_taken : (object first : ℕ) (mapping : List Mapped)
+          → list_all (λ sub. takes Bits32 (object, sub)) (range_with_len first (length mapping)) ≡ true
+          → AreMapped mapping → AreTaken (mapped_writes object first mapping)
+      unfolding AreMapped
+      entries_taken object first [] test are = none_taken
+      entries_taken object first (m ∷ ms) test are =
+          let P : Mapped → Type 0 = λ m. AreBytes (mapped_bytes m) in
+          let here : takes Bits32 (object, first) ≡ true = first_of _ _ test in
+          let rest : list_all (λ sub. takes Bits32 (object, sub)) (range_with_len (first + 1) (length ms))
+          ≡ true = second_of _ _ test in
+          one_taken (write_at object first (mapped_bytes m)) (mapped_writes object (first + 1) ms)
+          (write_taken object first Bits32 (mapped_bytes m) here (All-head P m ms are) refl)
+          (entries_taken object (first + 1) ms rest (All-tail P m ms are))
+
+      pub mapping_taken : (object : ℕ) (mapping : List Mapped) → takes Bits8 (object, 0) ≡ true
+          → list_all (λ sub. takes Bits32 (object, sub)) (range_with_len 1 (length mapping)) ≡ true
+          → length mapping < 256 → AreMapped mapping → AreTaken (mapping_writes object mapping)
+      mapping_taken object mapping count entries short are =
+          let last : List Write = write_at object 0 (length mapping ∷ []) ∷ [] in
+          one_taken (write_at object 0 (0 ∷ [])) (mapped_writes object 1 mapping ++ last)
+          (write_taken object 0 Bits8 (0 ∷ []) count (one_byte 0 (omega arith)) refl)
+          (both_taken (mapped_writes object 1 mapping) last
+          (entries_taken object 1 mapping entries are)
+          (one_taken (write_at object 0 (length mapping ∷ [])) []
+          (write_taken object 0 Bits8 (length mapping ∷ []) count (one_byte (length mapping) short) refl)
+          none_taken))
+
+    -- the mapping of a PDO that the device has
+    has_mapping_taken : (object : ℕ) (mapping : List Mapped)
+        → has_mapping (devices_of false ((node, ss) ∷ [])) node object (length mapping) ≡ true
         → length mapping < 256 → AreMapped mapping → AreTaken (mapping_writes object mapping)
     unfolding has_mapping
-    mapping_taken object mapping test short are =
-        let count : has_unsigned (devices_of ((node, ss) ∷ [])) node Bits8 (object, 0) ≡ true = first_of _ _ test in
-        let last : List Write = write_at object 0 (length mapping ∷ []) ∷ [] in
-        one_taken (write_at object 0 (0 ∷ [])) (mapped_writes object 1 mapping ++ last)
-        (has_taken ss node object 0 Bits8 (0 ∷ []) count (one_byte 0 (omega arith)) refl)
-        (both_taken (mapped_writes object 1 mapping) last
-        (entries_taken object 1 mapping (second_of _ _ test) are)
-        (one_taken (write_at object 0 (length mapping ∷ [])) []
-        (has_taken ss node object 0 Bits8 (length mapping ∷ []) count (one_byte (length mapping) short) refl)
-        none_taken))
+    has_mapping_taken object mapping test short are =
+        mapping_taken (λ width place. has_unsigned (devices_of false ((node, ss) ∷ [])) node width place)
+        (λ width place is. has_sound ss node width place is) object mapping (first_of _ _ test) (second_of _ _ test)
+        short are
 
-    cob_taken : (object cob : ℕ) → has_unsigned (devices_of ((node, ss) ∷ [])) node Bits32 (object, 1) ≡ true
+    cob_taken : (object cob : ℕ) → has_unsigned (devices_of false ((node, ss) ∷ [])) node Bits32 (object, 1) ≡ true
         → IsTaken ss node (cob_write object cob)
     cob_taken object cob test = has_taken ss node object 1 Bits32 (little_bytes 4 cob) test (four_bytes cob) refl
 
@@ -209,9 +231,9 @@ module _ (ss : List Section) where
     unfolding tpdo_writes
     tpdo_taken c has transmission started short are =
         let object : ℕ = tpdo_object c.message.tpdo in
-        let cob : has_unsigned (devices_of ((node, ss) ∷ [])) node Bits32 (object, 1)
+        let cob : has_unsigned (devices_of false ((node, ss) ∷ [])) node Bits32 (object, 1)
         ≡ true = first_of _ _ (first_of _ _ has) in
-        let kind : has_unsigned (devices_of ((node, ss) ∷ [])) node Bits8 (object, 2)
+        let kind : has_unsigned (devices_of false ((node, ss) ∷ [])) node Bits8 (object, 2)
         ≡ true = second_of _ _ (first_of _ _ has) in
         let off : ℕ = off_bit + (no_rtr_bit + c.identifier) in
         let type : List ℕ = c.message.transmission ∷ [] in
@@ -229,7 +251,7 @@ module _ (ss : List Section) where
         (both_taken (time_write ss node object 3 c.message.inhibit) (time_write ss node object 5 c.message.event)
         (time_taken object 3 c.message.inhibit) (time_taken object 5 c.message.event))
         (start_taken object c.start started))
-        (mapping_taken (mapping_object object) c.mapping (second_of _ _ has) short are))
+        (has_mapping_taken (mapping_object object) c.mapping (second_of _ _ has) short are))
         (one_taken (cob_write object (no_rtr_bit + c.identifier)) [] (cob_taken object (no_rtr_bit + c.identifier) cob)
         none_taken)))
 
@@ -241,9 +263,9 @@ module _ (ss : List Section) where
     unfolding rpdo_writes
     rpdo_taken c k has short are =
         let object : ℕ = rpdo_object k.rpdo in
-        let cob : has_unsigned (devices_of ((node, ss) ∷ [])) node Bits32 (object, 1)
+        let cob : has_unsigned (devices_of false ((node, ss) ∷ [])) node Bits32 (object, 1)
         ≡ true = first_of _ _ (first_of _ _ has) in
-        let kind : has_unsigned (devices_of ((node, ss) ∷ [])) node Bits8 (object, 2)
+        let kind : has_unsigned (devices_of false ((node, ss) ∷ [])) node Bits8 (object, 2)
         ≡ true = second_of _ _ (first_of _ _ has) in
         let type : List ℕ = taken_type c.message.transmission ∷ [] in
         let rest : List Write = mapping_writes (mapping_object object) k.mapping in
@@ -254,7 +276,7 @@ module _ (ss : List Section) where
         (has_taken ss node object 2 Bits8 type kind (one_byte (taken_type c.message.transmission)
         (taken_byte c.message.transmission)) refl)
         (both_taken rest on
-        (mapping_taken (mapping_object object) k.mapping (second_of _ _ has) short are)
+        (has_mapping_taken (mapping_object object) k.mapping (second_of _ _ has) short are)
         (one_taken (cob_write object c.identifier) [] (cob_taken object c.identifier cob) none_taken)))
 
   -- ---- their values

@@ -24,7 +24,8 @@ use Rattle.pdo_plan.specs.declared.consumer.Consumer.{Consumer}
 use Rattle.pdo_plan.specs.declared.planned_message.PlannedMessage.{PlannedMessage}
 use Rattle.pdo_plan.specs.Plan.{clean}
 use Rattle.pdo_links.specs.Order.{IsOfSent, IsOfTaken, IsNamedByNone, IsSentAlone, IsTakenAlone}
-use Rattle.pdo_links.specs.Writes.{at_number, by_number, link_writes, node_writes, tpdo_of, rpdo_of, tpdo_writes}
+use Rattle.pdo_links.specs.PdoWrites.{tpdo_of, rpdo_of}
+use Rattle.pdo_links.specs.Writes.{at_number, by_number, set_link_writes, node_writes, tpdo_writes}
 use Rattle.pdo_links.specs.Writes.{rpdo_writes}
 use Rattle.pdo_links.proofs.Numbered.{Sends, Takes, sends, takes, found, append_none}
 
@@ -89,11 +90,11 @@ of_rpdos cs node w has =
 
 pub of_messages : (plan : List PlannedMessage) (params : Texts) (ss : List Section) (node : ℕ) (w : Write)
     → ((place : ℕ × ℕ) → is_of_pdos place.0 ≡ true → get params place ≡ None)
-    → Contains (node_writes plan params ss node) w → is_of_pdos w.index ≡ true
+    → Contains (node_writes false plan params ss node) w → is_of_pdos w.index ≡ true
     → IsOfSent (clean plan) ss node w ⊎ IsOfTaken (clean plan) node w
-unfolding node_writes link_writes
+unfolding node_writes set_link_writes
 of_messages plan params ss node w apart has pdo =
-    ⊎_elim parameter links (of_either (parameter_writes ss params node) (link_writes plan ss node) w has)
+    ⊎_elim parameter links (of_either (parameter_writes ss params node) (set_link_writes plan ss node) w has)
   where
     parameter : Contains (parameter_writes ss params node) w
         → IsOfSent (clean plan) ss node w ⊎ IsOfTaken (clean plan) node w
@@ -105,7 +106,7 @@ of_messages plan params ss node w apart has pdo =
         let contrary : (let n : Option (List ℕ) = None in n ≡ Some text.0) = sym none ∙ text.1 in
         cc
 
-    links : Contains (link_writes plan ss node) w → IsOfSent (clean plan) ss node w ⊎ IsOfTaken (clean plan) node w
+    links : Contains (set_link_writes plan ss node) w → IsOfSent (clean plan) ss node w ⊎ IsOfTaken (clean plan) node w
     links there = ⊎_elim (λ h. inl (of_tpdos (clean plan) ss node w h)) (λ h. inr (of_rpdos (clean plan) node w h))
         (of_either (by_number (tpdo_writes ss node) (filter_map (tpdo_of node) (clean plan)))
         (by_number (λ (t : Clean × Consumer). rpdo_writes t.0 t.1)
@@ -141,8 +142,8 @@ no_rpdo node c other = by (find (λ (k : Consumer). k.node == node) c.consumers)
 
 pub parameters_alone : (plan : List PlannedMessage) (params : Texts) (ss : List Section) (node : ℕ)
     → IsNamedByNone (clean plan) node
-    → node_writes plan params ss node ≡ parameter_writes ss params node
-unfolding node_writes link_writes
+    → node_writes false plan params ss node ≡ parameter_writes ss params node
+unfolding node_writes set_link_writes
 parameters_alone plan params ss node none =
     let tpdos : by_number (tpdo_writes ss node) (filter_map (tpdo_of node) (clean plan)) ≡ [] =
     none_by_number (tpdo_writes ss node) (filter_map (tpdo_of node) (clean plan))
@@ -155,13 +156,13 @@ parameters_alone plan params ss node none =
 
 -- ---- nothing is missing
 
-in_first : {X : Type 0} (xs ys : List X) (x : X) → Contains xs x → Contains (xs ++ ys) x
+pub in_first : {X : Type 0} (xs ys : List X) (x : X) → Contains xs x → Contains (xs ++ ys) x
 in_first [] ys x (k, lt, is) = absurd (omega arith)
 in_first (z ∷ xs) ys x (zero, lt, is) = (zero, omega arith, is)
 in_first (z ∷ xs) ys x (suc k, lt, is) = let r : Contains (xs ++ ys) x = in_first xs ys x (k, omega arith, is)
     in (suc r.0, (let j : r.0 < length (xs ++ ys) = r.1 in omega arith), r.2)
 
-in_second : {X : Type 0} (xs ys : List X) (x : X) → Contains ys x → Contains (xs ++ ys) x
+pub in_second : {X : Type 0} (xs ys : List X) (x : X) → Contains ys x → Contains (xs ++ ys) x
 in_second [] ys x has = has
 in_second (z ∷ xs) ys x has = let r : Contains (xs ++ ys) x = in_second xs ys x has
     in (suc r.0, (let j : r.0 < length (xs ++ ys) = r.1 in omega arith), r.2)
@@ -170,7 +171,7 @@ at_itself : (n : ℕ) → is_at (nat_cmp n) n ≡ true
 at_itself n = grind arith
 
 -- a number that is given is found
-given_found : {Y : Type 0} (h : Clean → Option (ℕ × Y)) (cs : List Clean) (c : Clean) (number : ℕ) (y : Y)
+pub given_found : {Y : Type 0} (h : Clean → Option (ℕ × Y)) (cs : List Clean) (c : Clean) (number : ℕ) (y : Y)
     → Contains cs c → h c ≡ Some (number, y)
     → (z : Y) × (lookup (is_at (nat_cmp number)) (filter_map h cs) ≡ Some z)
 given_found h [] c number y (k, lt, is) e = absurd (omega arith)
@@ -210,10 +211,10 @@ module _ {Y : Type 0} (f : Y → List Write) (pdos : List (ℕ × Y)) (number : 
       bounds : (n : ℕ) → is_between 1 512 n ≡ true → (1 ≤ n) × (n < 1 + 512)
       bounds n test = grind arith
 
--- at the number of its TPDO a node has the writes of the message that it sends alone
-pub sent_at : (cs : List Clean) (ss : List Section) (node : ℕ) (c : Clean) → IsSentAlone cs node c
-    → at_number (tpdo_writes ss node) (filter_map (tpdo_of node) cs) c.message.tpdo ≡ tpdo_writes ss node c
-sent_at cs ss node c sent =
+-- at the number of its TPDO a node has the message that it sends alone
+pub sent_found : (cs : List Clean) (node : ℕ) (c : Clean) → IsSentAlone cs node c
+    → lookup (is_at (nat_cmp c.message.tpdo)) (filter_map (tpdo_of node) cs) ≡ Some c
+sent_found cs node c sent =
     let number : ℕ = c.message.tpdo in
     let given : tpdo_of node c ≡ Some (number, c) = own (c.message.node == node)
     (same_number c.message.node node sent.sender) in
@@ -221,7 +222,7 @@ sent_at cs ss node c sent =
     given_found (tpdo_of node) cs c number c sent.there given in
     let s : Sends cs node number at.0 = sends cs node number at.0 at.1 in
     let same : at.0 ≡ c = sent.alone at.0 s.message s.sender s.numbered in
-    ap (λ (o : Option Clean). option_map_or (tpdo_writes ss node) o []) at.1 ∙ ap (tpdo_writes ss node) same
+    at.1 ∙ ap (λ (d : Clean). Some d) same
   where
     own : (b : Bool) → b ≡ true → (let none : Option (ℕ × Clean) = None in let o : Option (ℕ × Clean) = if b
         then Some (c.message.tpdo, c) else none in o ≡ Some (c.message.tpdo, c))
@@ -231,14 +232,18 @@ sent_at cs ss node c sent =
     same_number : (m n : ℕ) → m ≡ n → (m == n) ≡ true
     same_number m n e = grind arith
 
+pub sent_at : (cs : List Clean) (ss : List Section) (node : ℕ) (c : Clean) → IsSentAlone cs node c
+    → at_number (tpdo_writes ss node) (filter_map (tpdo_of node) cs) c.message.tpdo ≡ tpdo_writes ss node c
+sent_at cs ss node c sent = ap (λ (o : Option Clean). option_map_or (tpdo_writes ss node) o []) (sent_found cs node c sent)
+
 pub sent_written : (plan : List PlannedMessage) (params : Texts) (ss : List Section) (node : ℕ) (c : Clean) (w : Write)
     → IsSentAlone (clean plan) node c → Contains (tpdo_writes ss node c) w
-    → Contains (node_writes plan params ss node) w
-unfolding node_writes link_writes
+    → Contains (node_writes false plan params ss node) w
+unfolding node_writes set_link_writes
 sent_written plan params ss node c w sent has =
     let pdos : List (ℕ × Clean) = filter_map (tpdo_of node) (clean plan) in
     let f : Clean → List Write = tpdo_writes ss node in
-    in_second (parameter_writes ss params node) (link_writes plan ss node) w
+    in_second (parameter_writes ss params node) (set_link_writes plan ss node) w
     (in_first (by_number f pdos) (by_number (λ (t : Clean × Consumer). rpdo_writes t.0 t.1)
     (filter_map (rpdo_of node) (clean plan))) w
     (in_numbers f pdos c.message.tpdo w (subst (λ (ws : List Write). Contains ws w)
@@ -260,11 +265,10 @@ node_found node (x ∷ ks) k (suc i, lt, is) e = by (x.node == node) (node_found
     by true r = (x, refl)
     by false r = r
 
--- at the number of its RPDO a node has the writes of the message that it takes alone
-pub taken_at : (cs : List Clean) (node : ℕ) (c : Clean) (k : Consumer) → IsTakenAlone cs node c k
-    → at_number (λ (t : Clean × Consumer). rpdo_writes t.0 t.1) (filter_map (rpdo_of node) cs) k.rpdo ≡ rpdo_writes c k
-taken_at cs node c k taken =
-    let f : Clean × Consumer → List Write = λ (t : Clean × Consumer). rpdo_writes t.0 t.1 in
+-- at the number of its RPDO a node has the message that it takes alone
+pub taken_found : (cs : List Clean) (node : ℕ) (c : Clean) (k : Consumer) → IsTakenAlone cs node c k
+    → lookup (is_at (nat_cmp k.rpdo)) (filter_map (rpdo_of node) cs) ≡ Some (c, k)
+taken_found cs node c k taken =
     let number : ℕ = k.rpdo in
     let there : (j : Consumer) × (find (λ (k : Consumer). k.node == node) c.consumers ≡ Some j) =
     node_found node c.consumers k taken.consumer taken.taker in
@@ -280,17 +284,23 @@ taken_at cs node c k taken =
     let message : at.0.0 ≡ c = taken.alone at.0.0 at.0.1 t.message t.consumer t.taker t.numbered in
     let consumer : at.0.1
     ≡ k = taken.once at.0.1 (subst (λ (d : Clean). Contains d.consumers at.0.1) message t.consumer) t.taker in
-    ap (λ (o : Option (Clean × Consumer)). option_map_or f o []) at.1 ∙ ap (λ (d : Clean). rpdo_writes d at.0.1) message
-    ∙ ap (rpdo_writes c) consumer
+    at.1 ∙ ap (λ (d : Clean). let t : Clean × Consumer = (d, at.0.1) in Some t) message
+    ∙ ap (λ (i : Consumer). let t : Clean × Consumer = (c, i) in Some t) consumer
+
+pub taken_at : (cs : List Clean) (node : ℕ) (c : Clean) (k : Consumer) → IsTakenAlone cs node c k
+    → at_number (λ (t : Clean × Consumer). rpdo_writes t.0 t.1) (filter_map (rpdo_of node) cs) k.rpdo ≡ rpdo_writes c k
+taken_at cs node c k taken =
+    ap (λ (o : Option (Clean × Consumer)). option_map_or (λ (t : Clean × Consumer). rpdo_writes t.0 t.1) o [])
+    (taken_found cs node c k taken)
 
 pub taken_written : (plan : List PlannedMessage) (params : Texts) (ss : List Section) (node : ℕ) (c : Clean)
     (k : Consumer) (w : Write)
-    → IsTakenAlone (clean plan) node c k → Contains (rpdo_writes c k) w → Contains (node_writes plan params ss node) w
-unfolding node_writes link_writes
+    → IsTakenAlone (clean plan) node c k → Contains (rpdo_writes c k) w → Contains (node_writes false plan params ss node) w
+unfolding node_writes set_link_writes
 taken_written plan params ss node c k w taken has =
     let pdos : List (ℕ × (Clean × Consumer)) = filter_map (rpdo_of node) (clean plan) in
     let f : Clean × Consumer → List Write = λ (t : Clean × Consumer). rpdo_writes t.0 t.1 in
-    in_second (parameter_writes ss params node) (link_writes plan ss node) w
+    in_second (parameter_writes ss params node) (set_link_writes plan ss node) w
     (in_second (by_number (tpdo_writes ss node) (filter_map (tpdo_of node) (clean plan))) (by_number f pdos) w
     (in_numbers f pdos k.rpdo w (subst (λ (ws : List Write). Contains ws w)
     (sym (taken_at (clean plan) node c k taken)) has) taken.numbered))

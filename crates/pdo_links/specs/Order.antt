@@ -1,15 +1,20 @@
 -- In which order a PDO is configured, and whose writes a node gets, in the words of CiA 301.
-use Rattle.std.specs.Prelude.{◌≡◌, ℕ, ◌==◌, ◌&&◌, Bool, true, false, not, List, [], ◌∷◌, ◌++◌, length}
-use Rattle.std.specs.Prelude.{filter, Contains}
+use Rattle.std.specs.Prelude.{◌≡◌, ◌⊎◌, ℕ, ◌+◌, ◌==◌, ◌&&◌, Bool, true, false, not, List, [], ◌∷◌, ◌++◌, length, All}
+use Rattle.std.specs.Prelude.{filter, Contains, Option, Some, IsTrue, IsFalse}
 use Rattle.byteorder.specs.Endian.{little_number}
-use Rattle.cia301.specs.CobIds.{identifier_in, is_valid}
+use Rattle.cia301.specs.CobIds.{identifier_in, is_valid, off_bit}
 use Rattle.concise_dcf.specs.declared.write.Write.{Write}
 use Rattle.ini_text.specs.Content.{Section}
 use Rattle.pdo_plan.specs.declared.clean.Clean.{Clean}
 use Rattle.pdo_plan.specs.declared.consumer.Consumer.{Consumer}
 use Rattle.pdo_stations.specs.declared.mapped.Mapped.{Mapped}
-use Rattle.cia301.specs.PdoObjects.{mapping_object}
-use Rattle.pdo_links.specs.Writes.{write_at, mapped_writes, tpdo_writes, rpdo_writes}
+use Rattle.pdo_stations.specs.declared.as_made.AsMade.{AsMade}
+use Rattle.cia301.specs.PdoObjects.{mapping_object, rpdo_object, tpdo_object}
+use Rattle.vendor_pdos.specs.Mappings.{writes_mapping}
+use Rattle.vendor_pdos.specs.Parameters.{is_open, parameter_default}
+use Rattle.pdo_links.specs.PdoWrites.{write_at, mapped_writes, rpdo_of, tpdo_of}
+use Rattle.pdo_links.specs.VendorWrites.{unused_writes, vendor_rpdo_writes, vendor_tpdo_writes}
+use Rattle.pdo_links.specs.Writes.{tpdo_writes, rpdo_writes}
 use Rattle.cia301.specs.Limits.{is_pdo_number}
 
 -- ---- order
@@ -36,19 +41,43 @@ is_off cob = not (is_valid (little_number 4 cob.bytes))
 abbrev pub identifier_set : Write → ℕ
 identifier_set cob = identifier_in (little_number 4 cob.bytes)
 
--- a PDO is configured while it is off, and its mapping entries are written while their count is 0; in the end the
--- count is theirs, and the PDO is on with its identifier
-pub record IsConfigured (object identifier : ℕ) (mapping : List Mapped) (ws : List Write) : Type 0 where
+-- a PDO is off while it is configured, and in the end on with its identifier
+pub record IsSwitched (object identifier : ℕ) (ws : List Write) : Type 0 where
   pub off : Write
   pub on : Write
   pub meanwhile : AreBetween (is_to object 1) off on ws
   pub is_switched_off : is_off off ≡ true
   pub is_switched_on : is_off on ≡ false
   pub has_identifier : identifier_set on ≡ identifier
+
+-- its mapping entries are written while their count is 0; in the end the count is theirs
+pub record IsMapped (object : ℕ) (mapping : List Mapped) (ws : List Write) : Type 0 where
   pub counted : AreBetween (is_to (mapping_object object) 0) (write_at (mapping_object object) 0 (0 ∷ []))
       (write_at (mapping_object object) 0 (length mapping ∷ [])) (to_object (mapping_object object) ws)
   pub entries : filter (λ w. not (is_to (mapping_object object) 0 w)) (to_object (mapping_object object) ws)
       ≡ mapped_writes (mapping_object object) 1 mapping
+
+-- a PDO is configured with a mapping while it is off
+abbrev pub IsConfigured : ℕ → ℕ → List Mapped → List Write → Type 0
+IsConfigured object identifier mapping ws = IsSwitched object identifier ws × IsMapped object mapping ws
+
+-- a write of the transmission type or the event timer of a PDO
+abbrev pub IsOfTiming : ℕ → Write → Type 0
+IsOfTiming object w = (w.index ≡ object) × ((w.sub ≡ 2) ⊎ (w.sub ≡ 5))
+
+-- a PDO is configured as its vendor made it: an open one while it is off, and mapped where its mapping can be written;
+-- of a closed one transmission type and event timer alone are written, and nothing of a mapping that stands
+pub record IsConfiguredAsMade (device : AsMade) (object identifier : ℕ) (mapping : List Mapped)
+    (ws : List Write) : Type 0 where
+  pub when_open : IsTrue (is_open device object) → IsSwitched object identifier ws
+  pub when_closed : IsFalse (is_open device object) → All (IsOfTiming object) ws
+  pub when_mapped : IsTrue (writes_mapping device object (length mapping)) → IsMapped object mapping ws
+  pub when_it_stands : IsFalse (writes_mapping device object (length mapping)) → to_object (mapping_object object) ws ≡ []
+
+-- a write of a COB-ID that a PDO has by default, but off
+abbrev pub TurnsOff : AsMade → ℕ → Write → Type 0
+TurnsOff device object w = IsTrue (is_to object 1 w) × IsTrue (is_off w)
+    × (little_number 4 w.bytes ≡ off_bit + parameter_default device object 1)
 
 -- ---- whose writes
 
@@ -82,3 +111,25 @@ pub record IsTakenAlone (cs : List Clean) (node : ℕ) (c : Clean) (k : Consumer
   pub once : (j : Consumer) → Contains c.consumers j → j.node ≡ node → j ≡ k
   pub alone : (d : Clean) (j : Consumer) → Contains cs d → Contains d.consumers j → j.node ≡ node → j.rpdo ≡ k.rpdo
       → d ≡ c
+
+-- ---- the same of a node as its vendor made it
+
+-- a write of the TPDO by which it sends one of the messages
+abbrev pub IsOfSentAsMade : List Clean → AsMade → ℕ → Write → Type 0
+IsOfSentAsMade cs device node w =
+    (c : Clean) × Contains cs c × (c.message.node ≡ node) × Contains (vendor_tpdo_writes device c) w
+
+-- a write of the RPDO by which it takes one of them
+abbrev pub IsOfTakenAsMade : List Clean → AsMade → ℕ → Write → Type 0
+IsOfTakenAsMade cs device node w = (c : Clean) × Contains cs c
+    × ((k : Consumer) × Contains c.consumers k × (k.node ≡ node) × Contains (vendor_rpdo_writes device c k) w)
+
+-- none of the messages uses a PDO of a number
+abbrev pub IsUsedByNone : {X : Type 0} → (Clean → Option (ℕ × X)) → List Clean → ℕ → Type 0
+IsUsedByNone {X} pdo_of cs number = (c : Clean) (x : X) → Contains cs c → pdo_of c ≡ Some (number, x) → ⊥
+
+-- a write of a TPDO or an RPDO that none uses
+abbrev pub IsOfUnused : List Clean → AsMade → ℕ → Write → Type 0
+IsOfUnused cs device node w = (number : ℕ) × (is_pdo_number number ≡ true)
+    × ((IsUsedByNone (tpdo_of node) cs number × Contains (unused_writes device (tpdo_object number)) w)
+    ⊎ (IsUsedByNone (rpdo_of node) cs number × Contains (unused_writes device (rpdo_object number)) w))

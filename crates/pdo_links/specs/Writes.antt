@@ -1,16 +1,15 @@
 -- The writes that a plan gives a node: its TPDOs and RPDOs (CiA 301, PDO communication and mapping parameters). The
 -- order is this profile's own.
-use Rattle.std.specs.Prelude.{ℕ, ◌+◌, ◌==◌, false, if◌then◌else◌, List, [], ◌∷◌, ◌++◌, length, map, filter_map}
-use Rattle.std.specs.Prelude.{Option, Some, None, option_map}
+use Rattle.std.specs.Prelude.{ℕ, ◌+◌, false, Bool, if◌then◌else◌, List, [], ◌∷◌, ◌++◌, filter_map}
 use Rattle.std.specs.BTreeMap.{is_at}
-use Rattle.std.specs.List.{find, flat_map, enumerate_from, range_with_len}
+use Rattle.std.specs.List.{flat_map, range_with_len}
 use Rattle.std.specs.Map.{lookup}
 use Rattle.std.specs.Option.{option_map_or}
 use Rattle.std.specs.Ordering.{nat_cmp}
 use Rattle.byteorder.specs.Endian.{little_bytes}
 use Rattle.co_values.specs.declared.form.Width.TheVariants.{Bits8, Bits16}
 use Rattle.cia301.specs.CobIds.{no_rtr_bit, off_bit}
-use Rattle.cia301.specs.TransmissionTypes.{is_synchronous, type_of_byte}
+use Rattle.cia301.specs.PdoObjects.{mapping_object, rpdo_object, tpdo_object}
 use Rattle.concise_dcf.specs.declared.write.Write.{Write}
 use Rattle.ini_text.specs.Content.{Section}
 use Rattle.node_parameters.specs.Params.{Texts}
@@ -18,27 +17,11 @@ use Rattle.node_parameters.specs.Parameters.{parameter_writes}
 use Rattle.eds_device.specs.Entries.{entry_at}
 use Rattle.pdo_plan.specs.declared.clean.Clean.{Clean}
 use Rattle.pdo_plan.specs.declared.consumer.Consumer.{Consumer}
-use Rattle.pdo_stations.specs.declared.mapped.Mapped.{Mapped}
 use Rattle.pdo_plan.specs.declared.planned_message.PlannedMessage.{PlannedMessage}
-use Rattle.pdo_stations.specs.Devices.{takes_unsigned}
-use Rattle.cia301.specs.PdoObjects.{mapping_object, rpdo_object, tpdo_object}
-use Rattle.pdo_plan.specs.Mapping.{mapped_bytes}
 use Rattle.pdo_plan.specs.Plan.{clean}
-
-abbrev pub write_at : ℕ → ℕ → List ℕ → Write
-write_at index sub bytes = record { index = index; sub = sub; bytes = bytes }
-
-abbrev pub cob_write : ℕ → ℕ → Write
-cob_write object cob = write_at object 1 (little_bytes 4 cob)
-
--- the mapping entries, one a sub, from a sub on
-abbrev pub mapped_writes : ℕ → ℕ → List Mapped → List Write
-mapped_writes object first mapping = map (λ e. write_at object e.0 (mapped_bytes e.1)) (enumerate_from first mapping)
-
--- a mapping is switched off by count 0, its entries are written from sub 1 on, and then their count
-abbrev pub mapping_writes : ℕ → List Mapped → List Write
-mapping_writes object mapping =
-    write_at object 0 (0 ∷ []) ∷ (mapped_writes object 1 mapping ++ write_at object 0 (length mapping ∷ []) ∷ [])
+use Rattle.pdo_stations.specs.Devices.{as_made, takes_unsigned}
+use Rattle.pdo_links.specs.PdoWrites.{cob_write, mapping_writes, rpdo_of, taken_type, tpdo_of, write_at}
+use Rattle.pdo_links.specs.VendorWrites.{vendor_link_writes}
 
 -- a time is written where the entry is there, UNSIGNED16 and writable
 abbrev pub time_write : List Section → ℕ → ℕ → ℕ → ℕ → List Write
@@ -63,10 +46,6 @@ tpdo_writes ss node c =
     ++ start_write ss node object c.start ++ mapping_writes (mapping_object object) c.mapping
     ++ cob_write object (no_rtr_bit + c.identifier) ∷ [])
 
--- the transmission type of the RPDOs of a message: with the SYNC for 0 to 240, else at once
-abbrev pub taken_type : ℕ → ℕ
-taken_type transmission = if is_synchronous (type_of_byte transmission) then 0 else 255
-
 -- an RPDO likewise
 unfoldable pub rpdo_writes : Clean → Consumer → List Write
 rpdo_writes c consumer =
@@ -75,16 +54,6 @@ rpdo_writes c consumer =
     ∷ write_at object 2 (taken_type c.message.transmission ∷ [])
     ∷ (mapping_writes (mapping_object object) consumer.mapping
     ++ cob_write object c.identifier ∷ [])
-
--- ---- by number
-
--- the TPDO by which a node sends a message, by its number
-abbrev pub tpdo_of : ℕ → Clean → Option (ℕ × Clean)
-tpdo_of node c = if c.message.node == node then Some (c.message.tpdo, c) else None
-
--- the RPDO by which a node takes a message, by its number
-abbrev pub rpdo_of : ℕ → Clean → Option (ℕ × (Clean × Consumer))
-rpdo_of node c = option_map (λ k. (k.rpdo, (c, k))) (find (λ k. k.node == node) c.consumers)
 
 -- the writes of the PDO of a number, where there is one; of two the first counts
 abbrev pub at_number : {X : Type 0} → (X → List Write) → List (ℕ × X) → ℕ → List Write
@@ -95,11 +64,16 @@ unfoldable pub by_number : {X : Type 0} → (X → List Write) → List (ℕ × 
 by_number pdo_writes pdos = flat_map (at_number pdo_writes pdos) (range_with_len 1 512)
 
 -- all of a node's TPDOs, and then all of its RPDOs
-unfoldable pub link_writes : List PlannedMessage → List Section → ℕ → List Write
-link_writes plan ss node =
+unfoldable pub set_link_writes : List PlannedMessage → List Section → ℕ → List Write
+set_link_writes plan ss node =
     by_number (tpdo_writes ss node) (filter_map (tpdo_of node) (clean plan))
     ++ by_number (λ taken. rpdo_writes taken.0 taken.1) (filter_map (rpdo_of node) (clean plan))
 
+-- the same by the rules of version 3 or not
+abbrev pub link_writes : Bool → List PlannedMessage → List Section → ℕ → List Write
+link_writes is_three plan ss node =
+    if is_three then vendor_link_writes plan (as_made ss node) node else set_link_writes plan ss node
+
 -- THE WRITES of a node: those of its parameters, and then those of its PDOs
-unfoldable pub node_writes : List PlannedMessage → Texts → List Section → ℕ → List Write
-node_writes plan params ss node = parameter_writes ss params node ++ link_writes plan ss node
+unfoldable pub node_writes : Bool → List PlannedMessage → Texts → List Section → ℕ → List Write
+node_writes is_three plan params ss node = parameter_writes ss params node ++ link_writes is_three plan ss node

@@ -3,7 +3,7 @@ ghost use Rattle.std.specs.Prelude.{◌≡◌, ◌≤◌, [], ◌∷◌, ◌++�
 ghost use Rattle.base.specs.Bytes.{AreBytes};
 ghost use Rattle.pdo_plan.specs.Mapping.{mapped_bytes};
 ghost use Rattle.pdo_links.specs.Tables.{AreMapped};
-ghost use Rattle.pdo_links.specs.Writes.{write_at, mapped_writes, mapping_writes};
+ghost use Rattle.pdo_links.specs.PdoWrites.{write_at, mapped_writes, mapping_writes};
 
 use crate::parameters::MAPPED_COUNT;
 use crate::put::{put, put_u8};

@@ -6,7 +6,8 @@ ghost use Rattle.ini_text.specs.Content.{Section};
 ghost use Rattle.cia301.specs.PdoObjects.{rpdo_object};
 ghost use Rattle.pdo_plan.specs.Plan.{HasPdo, IsMadeFor, IsNumbered, clean, clean_of};
 ghost use Rattle.pdo_links.specs.Tables.{AreFew, AreValues, IsTableOf};
-ghost use Rattle.pdo_links.specs.Writes.{taken_type, rpdo_writes, rpdo_of, by_number};
+ghost use Rattle.pdo_links.specs.PdoWrites.{taken_type, rpdo_of};
+ghost use Rattle.pdo_links.specs.Writes.{rpdo_writes, by_number};
 
 use crate::first::put_first;
 use crate::mapping::put_mapping;
@@ -21,7 +22,7 @@ use std::alloc::{AllocError, Global};
 use std::collections::BTreeMap;
 
 /// The transmission type of the RPDOs of a message: what is sent with the SYNC is taken with it.
-fn taken_type(transmission: u8) -> u8
+pub(crate) fn taken_type(transmission: u8) -> u8
     ensures { result ≡ taken_type transmission }
 {
     if TransmissionType::of(transmission).is_synchronous() {
@@ -75,7 +76,7 @@ fn rpdo_of(planned: &PlannedMessage, node: u8) -> Option<Taken<'_>>
 }
 
 /// The RPDOs by which a node takes the messages of a plan, by number.
-fn rpdos_of(
+pub(crate) fn rpdos_of(
     alloc: Global,
     messages: &[PlannedMessage],
     node: u8,

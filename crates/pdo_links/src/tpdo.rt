@@ -6,7 +6,8 @@ ghost use Rattle.pdo_stations.specs.Devices.{takes_unsigned};
 ghost use Rattle.cia301.specs.PdoObjects.{tpdo_object};
 ghost use Rattle.pdo_plan.specs.Plan.{HasPdo, IsMadeFor, IsWithin, clean, clean_of};
 ghost use Rattle.pdo_links.specs.Tables.{AreFew, AreValues, IsTableOf};
-ghost use Rattle.pdo_links.specs.Writes.{write_at, start_write, time_write, tpdo_writes, tpdo_of, by_number};
+ghost use Rattle.pdo_links.specs.PdoWrites.{write_at, tpdo_of};
+ghost use Rattle.pdo_links.specs.Writes.{start_write, time_write, tpdo_writes, by_number};
 
 use crate::first::put_first;
 use crate::mapping::put_mapping;
@@ -125,7 +126,7 @@ fn tpdo_of(planned: &PlannedMessage, node: u8) -> Option<&Clean>
 }
 
 /// The TPDOs by which a node sends the messages of a plan, by number.
-fn tpdos_of(
+pub(crate) fn tpdos_of(
     alloc: Global,
     messages: &[PlannedMessage],
     node: u8,

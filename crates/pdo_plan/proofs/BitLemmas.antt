@@ -15,7 +15,7 @@ use Rattle.pdo_stations.specs.Devices.{Devices, width_at}
 use Rattle.pdo_stations.specs.Dummies.{mapped_to, dummy_type, dummy_for}
 use Rattle.pdo_plan.specs.Mapping.{Sources, Sinks, mapping_bits, source_bits, bits_of, sent_mapping, taken_at}
 use Rattle.pdo_plan.specs.Mapping.{taken_mapping}
-use Rattle.pdo_plan.specs.Plan.{Had, had_by, judged_message, consumer_of, consumers_of, planned_consumers, clean}
+use Rattle.pdo_plan.specs.Plan.{Had, Withheld, had_by, judged_message, consumer_of, consumers_of, planned_consumers, clean}
 use Rattle.pdo_plan.specs.Plan.{plan_of, FitFrames}
 use Rattle.pdo_plan.proofs.CarriedLemmas.{fold_map}
 use Rattle.pdo_plan.proofs.ChainLemmas.{each_clean, all_clean}
@@ -97,16 +97,16 @@ consumers_fit had devices m few =
     (each_given (consumer_of had devices m) (λ (k : Consumer). mapping_bits k.mapping ≤ 64)
     (consumer_fits had devices m few) (consumers_of m.sinks))
 
-fits : (devices : Devices) (before : List Clean) (m : Linked) (c : Clean)
-    → judged_message (had_by before) devices m ≡ Planned c → FitFrames c
-fits devices before m c e =
-    let is = judged_clean (had_by before) devices m c e in
-    let few = (faultless (had_by before) devices m is.faultless).bits in
+fits : (devices : Devices) (withheld : Withheld) (before : List Clean) (m : Linked) (c : Clean)
+    → judged_message (had_by withheld before) devices m ≡ Planned c → FitFrames c
+fits devices withheld before m c e =
+    let is = judged_clean (had_by withheld before) devices m c e in
+    let few = (faultless (had_by withheld before) devices m is.faultless).bits in
     let sent : mapping_bits c.mapping ≡ bits_of devices m.message.node m.sources = ap mapping_bits (sym is.mapping)
     ∙ sent_bits devices m.message.node m.sources in (
       omega (arith, sent, few),
       subst (λ (ks : List Consumer). All (λ (k : Consumer). mapping_bits k.mapping ≤ 64) ks) is.consumers
-          (consumers_fit (had_by before) devices m few),
+          (consumers_fit (had_by withheld before) devices m few),
     )
 
 pub all_fit : (devices : Devices) (ms : List (List ℕ × Linked)) → All FitFrames (clean (plan_of devices ms))

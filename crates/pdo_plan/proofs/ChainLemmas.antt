@@ -11,7 +11,8 @@ use Rattle.pdo_plan.specs.declared.clean.Clean.{Clean}
 use Rattle.pdo_plan.specs.declared.outcome.Outcome.{Outcome}
 use Rattle.pdo_plan.specs.declared.outcome.Outcome.TheVariants.{Planned, Faulty}
 use Rattle.pdo_stations.specs.Devices.{Devices}
-use Rattle.pdo_plan.specs.Plan.{had_by, judged_message, clean_of, clean, plan_after, plan_of}
+use Rattle.pdo_plan.specs.Plan.{Withheld, had_by, judged_message, clean_of, clean, plan_after, plan_of}
+use Rattle.pdo_plan.specs.Plan.{withheld_by}
 
 -- each is so after those before it
 abbrev pub Each : (List Clean → Clean → Type 0) → List Clean → List Clean → Type 0
@@ -23,52 +24,52 @@ OfLinked e = IsLinked e.1
 
 -- what holds of a message that is judged clean
 abbrev pub Clearly : Devices → (List Clean → Clean → Type 0) → Type 0
-Clearly devices P = (before : List Clean) (m : Linked) (c : Clean)
-    → judged_message (had_by before) devices m ≡ Planned c → P before c
+Clearly devices P = (withheld : Withheld) (before : List Clean) (m : Linked) (c : Clean)
+    → judged_message (had_by withheld before) devices m ≡ Planned c → P before c
 
 -- and of one within its limits
 abbrev pub WithinLimits : Devices → (List Clean → Clean → Type 0) → Type 0
-WithinLimits devices P = (before : List Clean) (m : Linked) (c : Clean) → IsLinked m
-    → judged_message (had_by before) devices m ≡ Planned c → P before c
+WithinLimits devices P = (withheld : Withheld) (before : List Clean) (m : Linked) (c : Clean) → IsLinked m
+    → judged_message (had_by withheld before) devices m ≡ Planned c → P before c
 
 module _ (devices : Devices) (P : List Clean → Clean → Type 0) where
-  each_after : Clearly devices P → (before : List Clean) (ms : List (List ℕ × Linked))
-      → Each P before (clean (plan_after devices before ms))
-  each_after holds before [] = tt
-  each_after holds before (m ∷ ms) =
-      by (judged_message (had_by before) devices m.1) refl (λ said. each_after holds (before ++ said) ms)
+  each_after : Clearly devices P → (withheld : Withheld) (before : List Clean) (ms : List (List ℕ × Linked))
+      → Each P before (clean (plan_after withheld devices before ms))
+  each_after holds withheld before [] = tt
+  each_after holds withheld before (m ∷ ms) =
+      by (judged_message (had_by withheld before) devices m.1) refl (λ said. each_after holds withheld (before ++ said) ms)
     where
-      by : (o : Outcome) → judged_message (had_by before) devices m.1 ≡ o
-          → ((said : List Clean) → Each P (before ++ said) (clean (plan_after devices (before ++ said) ms)))
+      by : (o : Outcome) → judged_message (had_by withheld before) devices m.1 ≡ o
+          → ((said : List Clean) → Each P (before ++ said) (clean (plan_after withheld devices (before ++ said) ms)))
           → Each P before (cons_option (clean_of o)
-          (clean (plan_after devices (before ++ cons_option (clean_of o) []) ms)))
-      by (Planned c) e rest = (holds before m.1 c e, rest (c ∷ []))
-      by (Faulty fs) e rest = subst (λ (cs : List Clean). Each P cs (clean (plan_after devices (before ++ []) ms)))
+          (clean (plan_after withheld devices (before ++ cons_option (clean_of o) []) ms)))
+      by (Planned c) e rest = (holds withheld before m.1 c e, rest (c ∷ []))
+      by (Faulty fs) e rest = subst (λ (cs : List Clean). Each P cs (clean (plan_after withheld devices (before ++ []) ms)))
           (append-nil before) (rest [])
 
-  within_after : WithinLimits devices P → (before : List Clean) (ms : List (List ℕ × Linked)) → All OfLinked ms
-      → Each P before (clean (plan_after devices before ms))
-  within_after holds before [] kept = tt
-  within_after holds before (m ∷ ms) kept =
-      by (judged_message (had_by before) devices m.1) refl
-      (λ said. within_after holds (before ++ said) ms (All-tail OfLinked m ms kept))
+  within_after : WithinLimits devices P → (withheld : Withheld) (before : List Clean) (ms : List (List ℕ × Linked)) → All OfLinked ms
+      → Each P before (clean (plan_after withheld devices before ms))
+  within_after holds withheld before [] kept = tt
+  within_after holds withheld before (m ∷ ms) kept =
+      by (judged_message (had_by withheld before) devices m.1) refl
+      (λ said. within_after holds withheld (before ++ said) ms (All-tail OfLinked m ms kept))
     where
-      by : (o : Outcome) → judged_message (had_by before) devices m.1 ≡ o
-          → ((said : List Clean) → Each P (before ++ said) (clean (plan_after devices (before ++ said) ms)))
+      by : (o : Outcome) → judged_message (had_by withheld before) devices m.1 ≡ o
+          → ((said : List Clean) → Each P (before ++ said) (clean (plan_after withheld devices (before ++ said) ms)))
           → Each P before (cons_option (clean_of o)
-          (clean (plan_after devices (before ++ cons_option (clean_of o) []) ms)))
-      by (Planned c) e rest = (holds before m.1 c (All-head OfLinked m ms kept) e, rest (c ∷ []))
-      by (Faulty fs) e rest = subst (λ (cs : List Clean). Each P cs (clean (plan_after devices (before ++ []) ms)))
+          (clean (plan_after withheld devices (before ++ cons_option (clean_of o) []) ms)))
+      by (Planned c) e rest = (holds withheld before m.1 c (All-head OfLinked m ms kept) e, rest (c ∷ []))
+      by (Faulty fs) e rest = subst (λ (cs : List Clean). Each P cs (clean (plan_after withheld devices (before ++ []) ms)))
           (append-nil before) (rest [])
 
   pub each_clean : Clearly devices P → (ms : List (List ℕ × Linked)) → Each P [] (clean (plan_of devices ms))
   unfolding plan_of
-  each_clean holds ms = each_after holds [] ms
+  each_clean holds ms = each_after holds (withheld_by devices ms) [] ms
 
   pub each_within : WithinLimits devices P → (ms : List (List ℕ × Linked)) → All OfLinked ms
       → Each P [] (clean (plan_of devices ms))
   unfolding plan_of
-  each_within holds ms kept = within_after holds [] ms kept
+  each_within holds ms kept = within_after holds (withheld_by devices ms) [] ms kept
 
   from_place : (before cs : List Clean) (k : ℕ) (c : Clean) → Each P before cs → slice_get cs k ≡ Some c
       → P (before ++ take k cs) c

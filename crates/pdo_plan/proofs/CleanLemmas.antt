@@ -12,41 +12,49 @@ use Rattle.pdo_stations.specs.Devices.{Devices}
 use Rattle.pdo_plan.specs.Mapping.{sent_mapping}
 use Rattle.pdo_stations.specs.Carried.{carried_by, carried_of, sent_by}
 use Rattle.pdo_plan.specs.Carried.{consumer_by, clean_by}
-use Rattle.pdo_plan.specs.Plan.{Had, rpdo_for, identifier_for, consumer_of, consumers_of, planned_consumers, faults}
+use Rattle.pdo_plan.specs.Plan.{Had, event_named, rpdo_by, rpdo_for, identifier_for, consumer_of, consumers_of}
+use Rattle.pdo_plan.specs.Plan.{planned_consumers, faults, sought_identifier}
 use Rattle.pdo_plan.specs.Plan.{message_outcome, judged_message}
 use Rattle.pdo_plan.proofs.CarriedLemmas.{sent_same, taken_same}
+use Rattle.pdo_plan.proofs.JudgedLemmas.{sought_same}
 use Rattle.pdo_plan.proofs.LimitLemmas.{limits_of}
 
 module _ (had : Had) (devices : Devices) (m : Linked) where
   abbrev sources : List Carried
   sources = carried_of devices m.message.node m.sources
 
-  consumer_same : (node : ℕ) → consumer_by had devices m.sinks sources node ≡ consumer_of had devices m node
-  unfolding consumer_by
+  abbrev sought : Option ℕ
+  sought = sought_identifier had devices m.message
+
+  consumer_same : (node : ℕ) → consumer_by had devices m sources sought node ≡ consumer_of had devices m node
+  unfolding consumer_by rpdo_for
   consumer_same node =
       λ i. option_map (λ number. record {
         node = node;
         rpdo = number;
         mapping = taken_same devices m.message.node m.sinks node m.sources i;
+        event = event_named m node;
       })
-      (rpdo_for had devices (length-map m.sources (carried_by devices m.message.node) i) node)
+      (rpdo_by had devices m sources sought node)
 
-  consumers_same : filter_map (consumer_by had devices m.sinks sources) (consumers_of m.sinks)
+  consumers_same : filter_map (consumer_by had devices m sources sought) (consumers_of m.sinks)
       ≡ planned_consumers had devices m
   unfolding planned_consumers
   consumers_same = λ i. filter_map (λ node. consumer_same node i) (consumers_of m.sinks)
 
   pub planned_is : (cs : List Carried) (nodes : List ℕ) (id : ℕ) (fs : List MessageFault)
       → cs ≡ carried_of devices m.message.node m.sources → nodes ≡ consumers_of m.sinks
-      → identifier_for had m.message ≡ Some id → fs ≡ faults had devices m → fs ≡ []
+      → identifier_for had devices m.message ≡ Some id → fs ≡ faults had devices m → fs ≡ []
       → Planned (clean_by had devices m cs nodes id) ≡ judged_message had devices m
   unfolding judged_message
   planned_is cs nodes id fs carried named found all none =
+      let own : Some id ≡ sought = sym (sought_same had devices m.message id found) in
       let sent_is : sent_by cs ≡ sent_mapping devices m.message.node m.sources = ap sent_by carried
       ∙ sent_same devices m.message.node m.sources in
-      let taken_is : filter_map (consumer_by had devices m.sinks cs) nodes ≡ planned_consumers had devices m =
-      ap (λ (x : List Carried). filter_map (consumer_by had devices m.sinks x) nodes) carried
-      ∙ ap (filter_map (consumer_by had devices m.sinks sources)) named ∙ consumers_same in
+      let taken_is : filter_map (consumer_by had devices m cs (Some id)) nodes ≡ planned_consumers had devices m =
+      ap (λ (x : List Carried). filter_map (consumer_by had devices m x (Some id)) nodes) carried
+      ∙ ap (λ (x : Option ℕ). filter_map (consumer_by had devices m sources x) nodes) own
+      ∙ ap (filter_map (consumer_by had devices m sources sought)) named ∙ consumers_same in
       let made : Planned (clean_by had devices m cs nodes id) ≡ message_outcome had devices m (Some id) [] =
       λ i. Planned (record {
         message = m.message;
@@ -60,13 +68,13 @@ module _ (had : Had) (devices : Devices) (m : Linked) where
 
   -- no identifier, or a fault
   pub faulty_is : (fs : List MessageFault) → fs ≡ faults had devices m
-      → ((id : ℕ) → identifier_for had m.message ≡ Some id → fs ≡ [] → ⊥) → Faulty fs ≡ judged_message had devices m
+      → ((id : ℕ) → identifier_for had devices m.message ≡ Some id → fs ≡ [] → ⊥) → Faulty fs ≡ judged_message had devices m
   unfolding judged_message
-  faulty_is fs all not_clean = by (identifier_for had m.message) fs refl all not_clean
+  faulty_is fs all not_clean = by (identifier_for had devices m.message) fs refl all not_clean
     where
-      by : (o : Option ℕ) (gs : List MessageFault) → o ≡ identifier_for had m.message → gs ≡ faults had devices m
+      by : (o : Option ℕ) (gs : List MessageFault) → o ≡ identifier_for had devices m.message → gs ≡ faults had devices m
           → ((id : ℕ) → o ≡ Some id → gs ≡ [] → ⊥)
-          → Faulty gs ≡ message_outcome had devices m (identifier_for had m.message) (faults had devices m)
+          → Faulty gs ≡ message_outcome had devices m (identifier_for had devices m.message) (faults had devices m)
       by None gs found all not_clean = λ i. message_outcome had devices m (found i) (all i)
       by (Some id) [] found all not_clean = absurd (not_clean id refl refl)
       by (Some id) (g ∷ gs) found all not_clean = λ i. message_outcome had devices m (found i) (all i)

@@ -20,11 +20,12 @@ use Rattle.pdo_plan.specs.declared.message_fault.MessageFault.TheVariants.{NoObj
 use Rattle.pdo_plan.specs.declared.outcome.Outcome.TheVariants.{Planned}
 use Rattle.pdo_stations.specs.Devices.{Devices}
 use Rattle.pdo_plan.specs.Mapping.{bits_of}
-use Rattle.pdo_plan.specs.Plan.{Had, had_by, is_at_node, judged_message, faults, faults_that_hold, identifier_for}
+use Rattle.pdo_plan.specs.Plan.{Had, Withheld, had_by, is_at_node, judged_message, faults, faults_that_hold, identifier_for}
 use Rattle.pdo_plan.specs.Plan.{has_objects, consumer_of, consumers_of, planned_consumers, clean, plan_of}
 use Rattle.pdo_plan.proofs.ChainLemmas.{each_clean, at_place, had_earlier}
-use Rattle.pdo_plan.proofs.JudgedLemmas.{judged_clean, identifier_fine, is_false, tests_with, noted_some, consumer_is}
+use Rattle.pdo_plan.proofs.JudgedLemmas.{judged_clean, identifier_fine, tests_with, noted_some, consumer_is}
 use Rattle.pdo_plan.proofs.OrderLemmas.{consumers_sorted, once, get_map}
+use Rattle.pdo_plan.proofs.RpdoLemmas.{rpdo_free}
 
 -- ---- tests that didn't hold
 
@@ -51,7 +52,7 @@ few_bits n e = grind (arith, nat_tests)
 pub faultless : (had : Had) (devices : Devices) (m : Linked) → faults had devices m ≡ [] → Faultless had devices m
 unfolding faults
 faultless had devices m none =
-    let tests = tests_with had devices m (m.message.cob == 0) (is_some (identifier_for had m.message)) in
+    let tests = tests_with had devices m (m.message.cob == 0) (is_some (identifier_for had devices m.message)) in
     record {
       objects = not_true (has_objects devices m) (no_test tests 0 (not (has_objects devices m)) NoObjects refl none);
       tpdo = no_test tests 1 (had.tpdo m.message.node m.message.tpdo) TpdoTaken refl none;
@@ -62,10 +63,11 @@ faultless had devices m none =
 -- ---- free before
 
 abbrev FreeIdentifier : List Clean → Clean → Type 0
-FreeIdentifier before c = (had_by before).identifier c.identifier ≡ false
+FreeIdentifier before c = list_any (λ (d : Clean). d.identifier == c.identifier) before ≡ false
 
 abbrev FreeTpdo : List Clean → Clean → Type 0
-FreeTpdo before c = (had_by before).tpdo c.message.node c.message.tpdo ≡ false
+FreeTpdo before c =
+    list_any (λ (d : Clean). (d.message.node == c.message.node) && (d.message.tpdo == c.message.tpdo)) before ≡ false
 
 module _ {X Y : Type 0} (h : X → Option Y) where
   -- what stands in a list of what is given is given
@@ -96,37 +98,34 @@ node_of k = k.node
 
 -- the consumers of a clean message: each has an RPDO that was free, and no node stands twice
 pub record Apart (before : List Clean) (c : Clean) : Type 0 where
-  pub free : (a : ℕ) (k : Consumer) → slice_get c.consumers a ≡ Some k → (had_by before).rpdo k.node k.rpdo ≡ false
+  pub free : (a : ℕ) (k : Consumer) → slice_get c.consumers a ≡ Some k
+      → list_any (λ (d : Clean). list_any (is_at_node k.node k.rpdo) d.consumers) before ≡ false
   pub once : (a b : ℕ) (k l : Consumer) → slice_get c.consumers a ≡ Some k → slice_get c.consumers b ≡ Some l
       → k.node ≡ l.node → a ≡ b
 
-and_true : (a b : Bool) → (a && b) ≡ true → a ≡ true
-and_true true b e = refl
-and_true false b e = e
-
 module _ (devices : Devices) where
-  free_identifier : (before : List Clean) (m : Linked) (c : Clean)
-      → judged_message (had_by before) devices m ≡ Planned c → FreeIdentifier before c
-  free_identifier before m c e =
-      (identifier_fine (had_by before) m.message c.identifier
-      (judged_clean (had_by before) devices m c e).identifier).free
+  free_identifier : (withheld : Withheld) (before : List Clean) (m : Linked) (c : Clean)
+      → judged_message (had_by withheld before) devices m ≡ Planned c → FreeIdentifier before c
+  free_identifier withheld before m c e =
+      (identifier_fine (had_by withheld before) devices m.message c.identifier
+      (judged_clean (had_by withheld before) devices m c e).identifier).free
 
-  free_tpdo : (before : List Clean) (m : Linked) (c : Clean) → judged_message (had_by before) devices m ≡ Planned c
+  free_tpdo : (withheld : Withheld) (before : List Clean) (m : Linked) (c : Clean) → judged_message (had_by withheld before) devices m ≡ Planned c
       → FreeTpdo before c
-  free_tpdo before m c e =
-      let is = judged_clean (had_by before) devices m c e in
-      subst (λ (x : Message). (had_by before).tpdo x.node x.tpdo
-      ≡ false) is.message (faultless (had_by before) devices m is.faultless).tpdo
+  free_tpdo withheld before m c e =
+      let is = judged_clean (had_by withheld before) devices m c e in
+      subst (λ (x : Message). (had_by withheld before).tpdo x.node x.tpdo
+      ≡ false) is.message (faultless (had_by withheld before) devices m is.faultless).tpdo
 
-  consumer_free : (before : List Clean) (m : Linked) (a : ℕ) (k : Consumer)
-      → slice_get (planned_consumers (had_by before) devices m) a ≡ Some k → (had_by before).rpdo k.node k.rpdo ≡ false
+  consumer_free : (withheld : Withheld) (before : List Clean) (m : Linked) (a : ℕ) (k : Consumer)
+      → slice_get (planned_consumers (had_by withheld before) devices m) a ≡ Some k → (had_by withheld before).rpdo k.node k.rpdo ≡ false
   unfolding planned_consumers
-  consumer_free before m a k e =
-      let there = given (consumer_of (had_by before) devices m) (consumers_of m.sinks) a k e in
-      let is = consumer_is (had_by before) devices m there.0 k there.1 in
-      let free : (had_by before).rpdo there.0 k.rpdo ≡ false = is_false ((had_by before).rpdo there.0 k.rpdo)
-      (and_true (not ((had_by before).rpdo there.0 k.rpdo)) _ is.least.2) in
-      subst (λ (n : ℕ). (had_by before).rpdo n k.rpdo ≡ false) (sym is.at) free
+  consumer_free withheld before m a k e =
+      let there = given (consumer_of (had_by withheld before) devices m) (consumers_of m.sinks) a k e in
+      let is = consumer_is (had_by withheld before) devices m there.0 k there.1 in
+      let free : (had_by withheld before).rpdo there.0 k.rpdo ≡ false =
+      rpdo_free (had_by withheld before) devices m there.0 k.rpdo is.rpdo in
+      subst (λ (n : ℕ). (had_by withheld before).rpdo n k.rpdo ≡ false) (sym is.at) free
 
   consumers_once : (had : Had) (m : Linked) (a b : ℕ) (k l : Consumer)
       → slice_get (planned_consumers had devices m) a ≡ Some k → slice_get (planned_consumers had devices m) b ≡ Some l
@@ -145,13 +144,13 @@ module _ (devices : Devices) where
       once (map node_of (planned_consumers had devices m)) a b k.node in_order
       (get_map node_of (planned_consumers had devices m) a k ea) (at_b ∙ ap Some (sym same))
 
-  consumers_apart : (before : List Clean) (m : Linked) (c : Clean)
-      → judged_message (had_by before) devices m ≡ Planned c → Apart before c
-  consumers_apart before m c e =
-      let is = judged_clean (had_by before) devices m c e in
+  consumers_apart : (withheld : Withheld) (before : List Clean) (m : Linked) (c : Clean)
+      → judged_message (had_by withheld before) devices m ≡ Planned c → Apart before c
+  consumers_apart withheld before m c e =
+      let is = judged_clean (had_by withheld before) devices m c e in
       record {
-        free = λ a k at. consumer_free before m a k (ap (λ (ks : List Consumer). slice_get ks a) is.consumers ∙ at);
-        once = λ a b k l ea eb same. consumers_once (had_by before) m a b k l
+        free = λ a k at. consumer_free withheld before m a k (ap (λ (ks : List Consumer). slice_get ks a) is.consumers ∙ at);
+        once = λ a b k l ea eb same. consumers_once (had_by withheld before) m a b k l
             (ap (λ (ks : List Consumer). slice_get ks a) is.consumers ∙ ea)
             (ap (λ (ks : List Consumer). slice_get ks b) is.consumers ∙ eb) same;
       }

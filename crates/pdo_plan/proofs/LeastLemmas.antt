@@ -1,11 +1,11 @@
 -- The least free number is the one that is free and below which none is.
-use Rattle.std.proofs.Common.{◌≡◌, ◌↔◌, ◌⊎◌, inl, inr, ℕ, zero, suc, ◌+◌, ◌≤◌, min, Bool, true, false, cond, List, ◌∷◌}
+use Rattle.std.proofs.Common.{◌≡◌, ◌↔◌, ◌⊎◌, inl, inr, ℕ, zero, suc, ◌+◌, ◌<◌, ◌≤◌, min, Bool, true, false, cond, List, ◌∷◌}
 use Rattle.std.proofs.Common.{filter, Option, Some, None, refl, sym, ap, subst, ◌∙◌, arith}
 use Rattle.std.specs.List.{range_with_len}
 use Rattle.std.specs.declared.cmp.Ordering.{Ordering}
 use Rattle.std.specs.declared.cmp.Ordering.TheVariants.{Less, Equal, Greater}
 use Rattle.std.specs.Ordering.{nat_cmp}
-use Rattle.std.proofs.lemmas.Bool.{false≢true}
+use Rattle.std.proofs.lemmas.Bool.{cases_lt, false≢true}
 use Rattle.std.proofs.lemmas.Cmp.{ranked}
 use Rattle.pdo_stations.proofs.RoomLemmas.{here_or_past}
 use Rattle.pdo_plan.specs.Least.{lesser, least, least_free, IsLeastFree}
@@ -85,3 +85,12 @@ least_free_is is_free first count o e = subst (IsLeastFree is_free first count) 
 pub least_free_both : (is_free : ℕ → Bool) (first count : ℕ) (o : Option ℕ) → (o ≡ least_free is_free first count)
     ↔ IsLeastFree is_free first count o
 least_free_both is_free first count o = (least_free_is is_free first count o, is_least_free is_free first count o)
+
+-- one more number that isn't free
+pub none_more : (is_free : ℕ → Bool) (first n : ℕ) → ((k : ℕ) → first ≤ k → k < n → is_free k ≡ false)
+    → is_free n ≡ false → (k : ℕ) → first ≤ k → k < n + 1 → is_free k ≡ false
+none_more is_free first n so_far here k low below = by (cases_lt k n)
+  where
+    by : (k < n) ⊎ (n ≤ k) → is_free k ≡ false
+    by (inl before) = so_far k low before
+    by (inr past) = let same : n ≡ k = omega arith in subst (λ x. is_free x ≡ false) same here

@@ -10,7 +10,10 @@ pub mod LeastLemmas
 pub mod LimitLemmas
 pub mod MadeLemmas
 pub mod NamedLemmas
+pub mod NamingLemmas
 pub mod OrderLemmas
 pub mod PlaceLemmas
 pub mod PlanLemmas
+pub mod RpdoLemmas
+pub mod ServedLemmas
 pub mod SpareLemmas

@@ -15,25 +15,29 @@ use Rattle.project_messages.specs.Messages.{IsLinked}
 use Rattle.pdo_plan.specs.declared.clean.Clean.{Clean}
 use Rattle.pdo_plan.specs.declared.consumer.Consumer.{Consumer}
 use Rattle.pdo_plan.specs.declared.outcome.Outcome.TheVariants.{Planned}
+use Rattle.pdo_plan.specs.Least.{IsLeastFree}
+use Rattle.pdo_stations.specs.Carried.{carried_by, carried_of}
+use Rattle.std.proofs.lemmas.List.{length-map}
 use Rattle.pdo_stations.specs.Devices.{Devices, devices_of, has_unsigned, has_mapping, has_pdo}
 use Rattle.cia301.specs.PdoObjects.{mapping_object, tpdo_object, rpdo_object}
-use Rattle.pdo_plan.specs.Plan.{Had, had_by, judged_message, consumer_of, consumers_of, planned_consumers, clean}
+use Rattle.pdo_plan.specs.Plan.{Had, Withheld, had_by, is_free_rpdo, judged_message, rpdo_for, consumer_of, consumers_of, planned_consumers, clean}
 use Rattle.pdo_plan.specs.Plan.{plan_of, HasPdo, IsMadeFor}
 use Rattle.pdo_plan.proofs.ChainLemmas.{each_clean, each_within, all_clean}
 use Rattle.pdo_plan.proofs.FreeLemmas.{faultless}
 use Rattle.pdo_plan.proofs.JudgedLemmas.{judged_clean, each_given, consumer_is, identifier_fine, sent_count, taken_few}
+use Rattle.pdo_plan.proofs.LeastLemmas.{least_free_is}
 use Rattle.pdo_plan.proofs.LimitLemmas.{limits_of}
 use Rattle.pdo_stations.proofs.RoomLemmas.{all_pass, one_fails}
 use Rattle.pdo_stations.proofs.AlikeLemmas.{pdo_alike}
 
 -- ---- identifiers
 
-not_restricted : (devices : Devices) (before : List Clean) (m : Linked) (c : Clean) → IsLinked m
-    → judged_message (had_by before) devices m ≡ Planned c → IsFalse (is_restricted c.identifier)
-not_restricted devices before m c kept e =
-    let is = judged_clean (had_by before) devices m c e in
+not_restricted : (devices : Devices) (withheld : Withheld) (before : List Clean) (m : Linked) (c : Clean) → IsLinked m
+    → judged_message (had_by withheld before) devices m ≡ Planned c → IsFalse (is_restricted c.identifier)
+not_restricted devices withheld before m c kept e =
+    let is = judged_clean (had_by withheld before) devices m c e in
     let limits = limits_of m kept in
-    (identifier_fine (had_by before) m.message c.identifier is.identifier).allowed limits.tpdo.0 limits.node.0
+    (identifier_fine (had_by withheld before) devices m.message c.identifier is.identifier).allowed limits.tpdo.0 limits.node.0
     limits.node.1
 
 pub none_restricted : (devices : Devices) (ms : List (List ℕ × Linked)) → All (λ e. IsLinked e.1) ms
@@ -81,22 +85,35 @@ fewer d node object few count up has =
 itself : (n : ℕ) → (n == n) ≡ true
 itself n = grind (arith, nat_tests)
 
+-- in versions 1 and 2 an RPDO that is found has what its writes name
+two_has : (had : Had) (nodes : List (ℕ × List Section)) (m : Linked) (node number : ℕ)
+    → rpdo_for had (devices_of false nodes) m node ≡ Some number
+    → has_pdo (devices_of false nodes) node (rpdo_object number) (length m.sources) ≡ true
+unfolding rpdo_for
+two_has had nodes m node number e =
+    let devices : Devices = devices_of false nodes in
+    let cs = carried_of devices m.message.node m.sources in
+    let is : IsLeastFree (is_free_rpdo had devices node (length cs)) 1 512 (Some number) =
+    least_free_is (is_free_rpdo had devices node (length cs)) 1 512 (Some number) (sym e) in
+    subst (λ n. has_pdo devices node (rpdo_object number) n ≡ true)
+    (length-map m.sources (carried_by devices m.message.node)) (and_right _ _ is.2)
+
 module _ (nodes : List (ℕ × List Section)) (node : ℕ) (ss : List Section)
     (there : lookup (λ n. n == node) nodes ≡ Some ss) where
   -- the plan's device of the node is this device
-  entries_same : (devices_of nodes).entry node ≡ (devices_of ((node, ss) ∷ [])).entry node
+  entries_same : (devices_of false nodes).entry node ≡ (devices_of false ((node, ss) ∷ [])).entry node
   entries_same =
       let one : lookup (λ n. n == node) ((node, ss) ∷ [])
       ≡ Some ss = ap (λ b. cond b (Some ss) (lookup (λ n. n == node) [])) (itself node) in
       λ i place. option_and_then (λ s. entry_at s node place.0 place.1) ((there ∙ sym one) i)
 
   has_here : (number object few count : ℕ) → number ≡ node → few ≤ count
-      → has_pdo (devices_of nodes) number object count ≡ true → HasPdo ss node object few
+      → has_pdo (devices_of false nodes) number object count ≡ true → HasPdo ss node object few
   has_here number object few count is up has =
-      let here : has_pdo (devices_of nodes) node object count
-      ≡ true = subst (λ n. has_pdo (devices_of nodes) n object count ≡ true) is has in
-      sym (pdo_alike (devices_of nodes) (devices_of ((node, ss) ∷ [])) node node object few entries_same)
-      ∙ fewer (devices_of nodes) node object few count up here
+      let here : has_pdo (devices_of false nodes) node object count
+      ≡ true = subst (λ n. has_pdo (devices_of false nodes) n object count ≡ true) is has in
+      sym (pdo_alike (devices_of false nodes) (devices_of false ((node, ss) ∷ [])) node node object few entries_same)
+      ∙ fewer (devices_of false nodes) node object few count up here
 
   abbrev Made : Clean → Type 0
   Made c = (c.message.node ≡ node → HasPdo ss node (tpdo_object c.message.tpdo) (length c.mapping))
@@ -106,41 +123,41 @@ module _ (nodes : List (ℕ × List Section)) (node : ℕ) (ss : List Section)
   abbrev MadeTaker : Consumer → Type 0
   MadeTaker k = k.node ≡ node → HasPdo ss node (rpdo_object k.rpdo) (length k.mapping)
 
-  taker_made : (had : Had) (m : Linked) (n : ℕ) (k : Consumer) → consumer_of had (devices_of nodes) m n ≡ Some k
+  taker_made : (had : Had) (m : Linked) (n : ℕ) (k : Consumer) → consumer_of had (devices_of false nodes) m n ≡ Some k
       → MadeTaker k
   taker_made had m n k e same =
-      let is = consumer_is had (devices_of nodes) m n k e in
-      let count : length k.mapping ≤ length m.sources = let f = taken_few (devices_of nodes) m n
+      let is = consumer_is had (devices_of false nodes) m n k e in
+      let count : length k.mapping ≤ length m.sources = let f = taken_few (devices_of false nodes) m n
       in let g = ap length is.mapping in omega (arith, f, g) in
       has_here n (rpdo_object k.rpdo) (length k.mapping) (length m.sources)
-      (sym is.at ∙ same) count (and_right _ _ is.least.2)
+      (sym is.at ∙ same) count (two_has had nodes m n k.rpdo is.rpdo)
 
-  takers_made : (had : Had) (m : Linked) → All MadeTaker (planned_consumers had (devices_of nodes) m)
+  takers_made : (had : Had) (m : Linked) → All MadeTaker (planned_consumers had (devices_of false nodes) m)
   unfolding planned_consumers
   takers_made had m =
-      All-from_recursion MadeTaker (planned_consumers had (devices_of nodes) m)
-      (each_given (consumer_of had (devices_of nodes) m) MadeTaker (taker_made had m) (consumers_of m.sinks))
+      All-from_recursion MadeTaker (planned_consumers had (devices_of false nodes) m)
+      (each_given (consumer_of had (devices_of false nodes) m) MadeTaker (taker_made had m) (consumers_of m.sinks))
 
-  clean_made : (before : List Clean) (m : Linked) (c : Clean)
-      → judged_message (had_by before) (devices_of nodes) m ≡ Planned c → Made c
-  clean_made before m c e =
-      let is = judged_clean (had_by before) (devices_of nodes) m c e in
-      let objects = (faultless (had_by before) (devices_of nodes) m is.faultless).objects in
-      let has : has_pdo (devices_of nodes) m.message.node (tpdo_object m.message.tpdo) (length m.sources)
+  clean_made : (withheld : Withheld) (before : List Clean) (m : Linked) (c : Clean)
+      → judged_message (had_by withheld before) (devices_of false nodes) m ≡ Planned c → Made c
+  clean_made withheld before m c e =
+      let is = judged_clean (had_by withheld before) (devices_of false nodes) m c e in
+      let objects = (faultless (had_by withheld before) (devices_of false nodes) m is.faultless).objects in
+      let has : has_pdo (devices_of false nodes) m.message.node (tpdo_object m.message.tpdo) (length m.sources)
       ≡ true = and_left _ _ (and_left _ _ objects) in
-      let same : has_pdo (devices_of nodes) c.message.node (tpdo_object c.message.tpdo) (length m.sources) ≡ true =
-      subst (λ (x : Message). has_pdo (devices_of nodes) x.node (tpdo_object x.tpdo) (length m.sources)
+      let same : has_pdo (devices_of false nodes) c.message.node (tpdo_object c.message.tpdo) (length m.sources) ≡ true =
+      subst (λ (x : Message). has_pdo (devices_of false nodes) x.node (tpdo_object x.tpdo) (length m.sources)
       ≡ true) is.message has in
       let count : length c.mapping ≤ length m.sources = let f = ap length (sym is.mapping)
-      in let g = sent_count (devices_of nodes) m in omega (arith, f, g) in
-      let takers : All MadeTaker c.consumers = subst (All MadeTaker) is.consumers (takers_made (had_by before) m) in (
+      in let g = sent_count (devices_of false nodes) m in omega (arith, f, g) in
+      let takers : All MadeTaker c.consumers = subst (All MadeTaker) is.consumers (takers_made (had_by withheld before) m) in (
         (λ at. has_here c.message.node (tpdo_object c.message.tpdo) (length c.mapping) (length m.sources)
             at count same),
         λ k among. All-contains MadeTaker c.consumers k takers among,
       )
 
-  pub made_for : (ms : List (List ℕ × Linked)) → IsMadeFor (plan_of (devices_of nodes) ms) ss node
+  pub made_for : (ms : List (List ℕ × Linked)) → IsMadeFor (plan_of (devices_of false nodes) ms) ss node
   made_for ms c among =
-      All-contains Made (clean (plan_of (devices_of nodes) ms)) c
-      (all_clean Made (clean (plan_of (devices_of nodes) ms))
-      (each_clean (devices_of nodes) (λ before d. Made d) clean_made ms)) among
+      All-contains Made (clean (plan_of (devices_of false nodes) ms)) c
+      (all_clean Made (clean (plan_of (devices_of false nodes) ms))
+      (each_clean (devices_of false nodes) (λ before d. Made d) clean_made ms)) among

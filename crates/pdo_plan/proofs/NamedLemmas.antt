@@ -1,10 +1,11 @@
 -- The plan asks only of the nodes that its messages name.
 use Rattle.std.proofs.Common.{◌≡◌, ℕ, ◌==◌, nat_lt, Bool, true, false, not, ◌&&◌, ◌||◌, List, [], ◌∷◌, ◌++◌, length}
-use Rattle.std.proofs.Common.{filter_map, Option, Some, None, is_some, is_none, option_map, option_and_then, refl, ap}
+use Rattle.std.proofs.Common.{filter_map, Option, Some, None, is_some, is_none, option_map, option_and_then, refl, sym, ap}
 use Rattle.std.proofs.Common.{◌∙◌, arith}
 use Rattle.std.specs.BTreeSet.{insert_key}
 use Rattle.std.specs.FinMap.{entries}
-use Rattle.std.specs.List.{list_any, cons_option, AllByRecursion}
+use Rattle.std.specs.List.{list_any, cons_option, range_with_len, AllByRecursion}
+use Rattle.std.specs.Prelude.{if◌then◌else◌}
 use Rattle.std.specs.Map.{lookup}
 use Rattle.std.specs.Option.{option_map_or}
 use Rattle.std.specs.Ordering.{nat_cmp}
@@ -29,10 +30,17 @@ use Rattle.pdo_stations.specs.Devices.{Devices, devices_of, can_map}
 use Rattle.cia301.specs.PdoObjects.{rpdo_object, tpdo_object}
 use Rattle.pdo_plan.specs.Least.{least_free}
 use Rattle.pdo_plan.specs.Mapping.{Sinks, differ, bits_of, sent_mapping, taken_mapping, is_mismatched, lacks_dummy_at}
-use Rattle.pdo_plan.specs.Plan.{Had, had_by, nodes_put, consumers_of, is_free_rpdo, rpdo_for, consumer_of}
+use Rattle.pdo_plan.specs.Plan.{Had, Withheld, had_by, nodes_put, consumers_of, is_free_rpdo, rpdo_for, consumer_of}
 use Rattle.pdo_plan.specs.Plan.{planned_consumers, identifier_for, has_objects, has_unmappable, has_mismatch}
 use Rattle.pdo_plan.specs.Plan.{lacks_rpdo, lacks_dummy, faults_that_hold, faults, message_outcome, judged_message}
-use Rattle.pdo_plan.specs.Plan.{planned_message, clean, plan_after, plan_of}
+use Rattle.pdo_plan.specs.Plan.{planned_message, clean, plan_after, plan_of, withheld_by, names_rpdo}
+use Rattle.pdo_plan.specs.Plan.{automatic, event_named, explicit, fixed_for, has_named_objects, serves_message}
+use Rattle.pdo_plan.specs.Plan.{sought_identifier, vendor_rpdo}
+use Rattle.project_messages.specs.declared.message.Message.{Message}
+use Rattle.pdo_stations.specs.Carried.{carried_by, carried_of}
+use Rattle.pdo_stations.specs.declared.as_made.AsMade.{AsMade}
+use Rattle.std.proofs.lemmas.List.{length-map}
+use Rattle.vendor_pdos.specs.Fixed.{fixed_at, fixed_identifier, fixes, is_withheld}
 use Rattle.pdo_plan.proofs.OrderLemmas.{all_inserted}
 use Rattle.pdo_stations.proofs.AlikeLemmas.{pdo_alike, start_alike, times_alike}
 
@@ -78,9 +86,50 @@ pub record AreAlikeFor (d e : Devices) (m : Linked) : Type 0 where
 
 -- a device with these entries and dummies at every node
 abbrev one : (ℕ × ℕ → Option Entry) → (ℕ → Bool) → Devices
-one entry dummy = record { entry = λ node. entry; dummy = λ node. dummy }
+one entry dummy = record { entry = λ node. entry; dummy = λ node. dummy; vendor = None }
 
-module _ (had : Had) (d e : Devices) (m : Linked) (same : AreAlikeFor d e m) where
+-- ---- devices by the rules of versions 1 and 2
+
+module _ (x : Devices) (none : x.vendor ≡ None) where
+  plain_objects : (m : Linked) → has_objects x m ≡ has_named_objects x m (length m.sources)
+  plain_objects m = ap (λ (vendor : Option (ℕ → Option AsMade)). option_map_or
+      (λ made. option_map_or (serves_message m (carried_of x m.message.node m.sources)) (made m.message.node) false)
+      vendor (has_named_objects x m (length m.sources))) none
+
+  plain_fixed : (node object : ℕ) → fixed_at x node object ≡ None
+  plain_fixed node object = ap (λ (vendor : Option (ℕ → Option AsMade)). option_and_then
+      (λ made. option_and_then (λ device. fixed_identifier device object) (made node)) vendor) none
+
+  plain_identifier : (had : Had) (m : Message) → identifier_for had x m
+      ≡ (if m.cob == 0 then automatic had m.node m.tpdo else explicit had m.cob)
+  unfolding identifier_for
+  plain_identifier had m = ap (λ (o : Option ℕ). option_map_or (fixed_for had m.cob) o
+      (if m.cob == 0 then automatic had m.node m.tpdo else explicit had m.cob))
+      (plain_fixed m.node (tpdo_object m.tpdo))
+
+  plain_rpdo : (had : Had) (m : Linked) (node : ℕ) → rpdo_for had x m node
+      ≡ least_free (is_free_rpdo had x node (length m.sources)) 1 512
+  unfolding rpdo_for
+  plain_rpdo had m node =
+      let cs = carried_of x m.message.node m.sources in
+      ap (λ (vendor : Option (ℕ → Option AsMade)). option_map_or
+      (λ made. option_and_then (λ device. vendor_rpdo had device m cs (sought_identifier had x m.message) node)
+      (made node)) vendor (least_free (is_free_rpdo had x node (length cs)) 1 512)) none
+      ∙ ap (λ (n : ℕ). least_free (is_free_rpdo had x node n) 1 512)
+      (length-map m.sources (carried_by x m.message.node))
+
+  plain_withheld : (ms : List (List ℕ × Linked)) → withheld_by x ms
+      ≡ record { identifier = λ id. false; rpdo = λ node number. false }
+  unfolding withheld_by is_withheld
+  plain_withheld ms = ap (λ (vendor : Option (ℕ → Option AsMade)). let held : Withheld = record {
+    identifier = λ id. option_map_or
+        (λ made. list_any (λ node. option_map_or (λ device. fixes device id) (made node) false) (range_with_len 1 127))
+        vendor false;
+    rpdo = λ node number. is_some vendor && list_any (λ m. names_rpdo node number m.1) ms;
+  } in held) none
+
+module _ (had : Had) (d e : Devices) (dn : d.vendor ≡ None) (en : e.vendor ≡ None) (m : Linked)
+    (same : AreAlikeFor d e m) where
   abbrev sender : ℕ
   sender = m.message.node
 
@@ -90,9 +139,14 @@ module _ (had : Had) (d e : Devices) (m : Linked) (same : AreAlikeFor d e m) whe
   objects_alike : has_objects d m ≡ has_objects e m
   objects_alike =
       let object = tpdo_object m.message.tpdo in
+      let named : has_named_objects d m (length m.sources) ≡ has_named_objects e m (length m.sources) =
       λ i. pdo_alike d e sender sender object (length m.sources) same.sender.entry i
       && times_alike d e sender sender object m.message.inhibit m.message.event same.sender.entry i
-      && start_alike d e sender sender object m.start same.sender.entry i
+      && start_alike d e sender sender object m.start same.sender.entry i in
+      plain_objects d dn m ∙ named ∙ sym (plain_objects e en m)
+
+  identifier_alike : identifier_for had d m.message ≡ identifier_for had e m.message
+  identifier_alike = plain_identifier d dn had m.message ∙ sym (plain_identifier e en had m.message)
 
   bits_alike : bits_of d sender m.sources ≡ bits_of e sender m.sources
   bits_alike = λ i. bits_of (one (same.sender.entry i) (same.sender.dummy i)) sender m.sources
@@ -120,18 +174,19 @@ module _ (had : Had) (d e : Devices) (m : Linked) (same : AreAlikeFor d e m) whe
       (source_at m.sources s.0.0) true) m.sinks same.takers)
 
   rpdo_alike : (node : ℕ) → AreAlikeAt d e node
-      → rpdo_for had d (length m.sources) node ≡ rpdo_for had e (length m.sources) node
+      → rpdo_for had d m node ≡ rpdo_for had e m node
   rpdo_alike node at =
       let free : (number : ℕ) → is_free_rpdo had d node (length m.sources) number
       ≡ is_free_rpdo had e node (length m.sources) number =
       λ number. ap (λ b. not (had.rpdo node number) && b)
       (pdo_alike d e node node (rpdo_object number) (length m.sources) at.entry) in
-      ap (λ (f : ℕ → Bool). least_free f 1 512) (λ i number. free number i)
+      plain_rpdo d dn had m node ∙ ap (λ (f : ℕ → Bool). least_free f 1 512) (λ i number. free number i)
+      ∙ sym (plain_rpdo e en had m node)
 
   rpdos_alike : lacks_rpdo had d m ≡ lacks_rpdo had e m
   rpdos_alike =
-      any_alike (λ node. is_none (rpdo_for had d (length m.sources) node))
-      (λ node. is_none (rpdo_for had e (length m.sources) node)) (consumers_of m.sinks)
+      any_alike (λ node. is_none (rpdo_for had d m node))
+      (λ node. is_none (rpdo_for had e m node)) (consumers_of m.sinks)
       (each_is (AreAlikeAt d e) _ (λ node at. ap is_none (rpdo_alike node at)) (consumers_of m.sinks) nodes_alike)
 
   dummies_alike : lacks_dummy d m ≡ lacks_dummy e m
@@ -149,6 +204,7 @@ module _ (had : Had) (d e : Devices) (m : Linked) (same : AreAlikeFor d e m) whe
         node = node;
         rpdo = number;
         mapping = taken_mapping (one (same.sender.entry i) (at.dummy i)) sender m.sources m.sinks node;
+        event = event_named m node;
       })
       (rpdo_alike node at i)
 
@@ -167,8 +223,8 @@ module _ (had : Had) (d e : Devices) (m : Linked) (same : AreAlikeFor d e m) whe
       ∷ (mismatch_alike i, Mismatched)
       ∷ (rpdos_alike i, NoRpdo)
       ∷ (dummies_alike i, NoDummy)
-      ∷ (not (m.message.cob == 0) && not (is_some (identifier_for had m.message)), BadIdentifier)
-      ∷ (m.message.cob == 0 && not (is_some (identifier_for had m.message)), NoIdentifier)
+      ∷ (not (m.message.cob == 0) && not (is_some (identifier_alike i)), BadIdentifier)
+      ∷ (m.message.cob == 0 && not (is_some (identifier_alike i)), NoIdentifier)
       ∷ (is_reserved (type_of_byte m.message.transmission), ReservedType) ∷ [])
 
   outcome_alike : (id : Option ℕ) (fs : List MessageFault)
@@ -186,25 +242,28 @@ module _ (had : Had) (d e : Devices) (m : Linked) (same : AreAlikeFor d e m) whe
 
   pub judged_alike : judged_message had d m ≡ judged_message had e m
   unfolding judged_message
-  judged_alike = outcome_alike (identifier_for had m.message) (faults had d m)
-      ∙ ap (message_outcome had e m (identifier_for had m.message)) faults_alike
+  judged_alike = outcome_alike (identifier_for had d m.message) (faults had d m)
+      ∙ (λ i. message_outcome had e m (identifier_alike i) (faults_alike i))
 
 -- ---- the plan
 
-after_alike : (d e : Devices) (before : List Clean) (ms : List (List ℕ × Linked))
-    → AllByRecursion (λ m. AreAlikeFor d e m.1) ms → plan_after d before ms ≡ plan_after e before ms
-after_alike d e before [] each = refl
-after_alike d e before (m ∷ ms) each =
-    let said : PlannedMessage = planned_message (had_by before) d m in
-    let same : said ≡ planned_message (had_by before) e m =
-    λ i. record { name = m.0; outcome = judged_alike (had_by before) d e m.1 each.0 i } in
-    ap (λ ps. said ∷ ps) (after_alike d e (before ++ clean (said ∷ [])) ms each.1)
-    ∙ ap (λ (p : PlannedMessage). p ∷ plan_after e (before ++ clean (p ∷ [])) ms) same
+module _ (d e : Devices) (dn : d.vendor ≡ None) (en : e.vendor ≡ None) where
+  after_alike : (withheld : Withheld) (before : List Clean) (ms : List (List ℕ × Linked))
+      → AllByRecursion (λ m. AreAlikeFor d e m.1) ms → plan_after withheld d before ms ≡ plan_after withheld e before ms
+  after_alike withheld before [] each = refl
+  after_alike withheld before (m ∷ ms) each =
+      let said : PlannedMessage = planned_message (had_by withheld before) d m in
+      let same : said ≡ planned_message (had_by withheld before) e m =
+      λ i. record { name = m.0; outcome = judged_alike (had_by withheld before) d e dn en m.1 each.0 i } in
+      ap (λ ps. said ∷ ps) (after_alike withheld (before ++ clean (said ∷ [])) ms each.1)
+      ∙ ap (λ (p : PlannedMessage). p ∷ plan_after withheld e (before ++ clean (p ∷ [])) ms) same
 
-pub plan_alike : (d e : Devices) (ms : List (List ℕ × Linked)) → AllByRecursion (λ m. AreAlikeFor d e m.1) ms
-    → plan_of d ms ≡ plan_of e ms
-unfolding plan_of
-plan_alike d e ms each = after_alike d e [] ms each
+  pub plan_alike : (ms : List (List ℕ × Linked)) → AllByRecursion (λ m. AreAlikeFor d e m.1) ms
+      → plan_of d ms ≡ plan_of e ms
+  unfolding plan_of
+  plan_alike ms each = after_alike (withheld_by d ms) [] ms each
+      ∙ ap (λ (withheld : Withheld). plan_after withheld e [] ms)
+      (plain_withheld d dn ms ∙ sym (plain_withheld e en ms))
 
 -- ---- the nodes that messages name
 
@@ -244,7 +303,7 @@ module _ (d e : Devices) where
 
 -- of a node that two lists of nodes look up alike their devices say the same
 lookup_alike : (a b : List (ℕ × List Section)) (node : ℕ) → lookup (λ n. n == node) a ≡ lookup (λ n. n == node) b
-    → AreAlikeAt (devices_of a) (devices_of b) node
+    → AreAlikeAt (devices_of false a) (devices_of false b) node
 lookup_alike a b node same = record {
   entry = λ i place. option_and_then (λ ss. entry_at ss node place.0 place.1) (same i);
   dummy = λ i kind. option_map_or (λ ss. dummy_allowed ss kind) (same i) false;
@@ -252,8 +311,8 @@ lookup_alike a b node same = record {
 
 pub named_alike : (a b : List (ℕ × List Section)) (messages : Named)
     → ((node : ℕ) → is_of_messages node messages ≡ true → lookup (λ n. n == node) a ≡ lookup (λ n. n == node) b)
-    → plan_of (devices_of a) (entries messages) ≡ plan_of (devices_of b) (entries messages)
+    → plan_of (devices_of false a) (entries messages) ≡ plan_of (devices_of false b) (entries messages)
 named_alike a b messages same =
-    plan_alike (devices_of a) (devices_of b) (entries messages)
-    (messages_named (devices_of a) (devices_of b) (entries messages)
+    plan_alike (devices_of false a) (devices_of false b) refl refl (entries messages)
+    (messages_named (devices_of false a) (devices_of false b) (entries messages)
     (λ node named. lookup_alike a b node (same node named)))

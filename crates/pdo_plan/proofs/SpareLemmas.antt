@@ -1,21 +1,23 @@
 -- The free RPDOs of a node, by its station.
-use Rattle.std.proofs.Common.{◌≡◌, ℕ, ◌&&◌, not, Bool, true, false, List, Some, None, refl, sym, ap}
+use Rattle.std.proofs.Common.{◌≡◌, ℕ, ◌&&◌, not, Bool, true, false, Some, None, refl, sym, ap}
 use Rattle.co_dict.specs.Shapes.{Shaped}
 use Rattle.cia301.specs.PdoObjects.{rpdo_object}
-use Rattle.pdo_stations.specs.Stations.{shape_at, devices_in}
+use Rattle.pdo_stations.specs.Seats.{shape_at}
+use Rattle.pdo_stations.specs.Stations.{devices_in}
+use Rattle.pdo_stations.specs.declared.stations.Stations.{Stations}
 use Rattle.pdo_stations.proofs.AlikeLemmas.{pdo_at, no_pdo_at}
 use Rattle.pdo_plan.specs.declared.taken.Taken.{Taken}
 use Rattle.pdo_stations.specs.Flags.{is_flagged, is_spare}
 use Rattle.pdo_plan.specs.Least.{least_free}
-use Rattle.pdo_plan.specs.Plan.{is_free_rpdo, rpdo_for}
+use Rattle.pdo_plan.specs.Plan.{is_free_rpdo}
 use Rattle.pdo_plan.specs.Taken.{had_in}
 use Rattle.pdo_plan.proofs.LeastLemmas.{is_least_free}
 
 -- the free RPDOs of a node with a station
-pub spare_free : (stations : List (ℕ × Shaped)) (taken : Taken) (node count : ℕ) (shape : Shaped)
-    → shape_at stations node ≡ Some shape
-    → least_free (is_spare shape taken.rpdos.flags.items node count) 1 512 ≡ rpdo_for (had_in taken)
-    (devices_in stations) count node
+pub spare_free : (stations : Stations) (taken : Taken) (node count : ℕ) (shape : Shaped)
+    → shape_at stations.seats node ≡ Some shape
+    → least_free (is_spare shape taken.rpdos.flags.items node count) 1 512
+    ≡ least_free (is_free_rpdo (had_in taken) (devices_in stations) node count) 1 512
 unfolding is_spare
 spare_free stations taken node count shape at =
     let same : (number : ℕ) → is_spare shape taken.rpdos.flags.items node count number ≡ is_free_rpdo (had_in taken)
@@ -29,8 +31,8 @@ and_false true b e = e
 and_false false b e = refl
 
 -- a node without a station has none
-pub none_free : (stations : List (ℕ × Shaped)) (taken : Taken) (node count : ℕ) → shape_at stations node ≡ None
-    → None ≡ rpdo_for (had_in taken) (devices_in stations) count node
+pub none_free : (stations : Stations) (taken : Taken) (node count : ℕ) → shape_at stations.seats node ≡ None
+    → None ≡ least_free (is_free_rpdo (had_in taken) (devices_in stations) node count) 1 512
 none_free stations taken node count at =
     is_least_free (is_free_rpdo (had_in taken) (devices_in stations) node count) 1 512 None
     (λ number low below. and_false (not (is_flagged taken.rpdos.flags.items node number)) _

@@ -1,5 +1,5 @@
 -- A message by its sources, looked up once: what is wrong with its sinks, and what it is as a clean one.
-use Rattle.std.specs.Prelude.{ℕ, ◌==◌, ◌||◌, Bool, true, not, List, filter_map, Option, option_map, length}
+use Rattle.std.specs.Prelude.{ℕ, ◌==◌, ◌||◌, Bool, true, false, not, List, length, filter_map, Option, Some, option_map}
 use Rattle.std.specs.Option.{option_map_or}
 use Rattle.co_dict.specs.declared.direction.Direction.TheVariants.{Receive}
 use Rattle.project_messages.specs.declared.linked.Linked.{Linked}
@@ -8,8 +8,8 @@ use Rattle.pdo_plan.specs.declared.clean.Clean.{Clean}
 use Rattle.pdo_plan.specs.declared.consumer.Consumer.{Consumer}
 use Rattle.pdo_stations.specs.Carried.{carried_at, sent_by, taken_of_all}
 use Rattle.pdo_stations.specs.Devices.{Devices, can_map, width_at}
-use Rattle.pdo_plan.specs.Mapping.{Sinks, differ}
-use Rattle.pdo_plan.specs.Plan.{Had, rpdo_for}
+use Rattle.pdo_plan.specs.Mapping.{differ}
+use Rattle.pdo_plan.specs.Plan.{Had, event_named, has_named_objects, rpdo_by, serves_message}
 
 -- a sink that isn't there or no RPDO can map, or that is on the sender
 abbrev pub is_untakable : Devices → ℕ → (ℕ × ℕ) × (ℕ × ℕ) → Bool
@@ -20,11 +20,22 @@ abbrev pub mismatches : Devices → List Carried → (ℕ × ℕ) × (ℕ × ℕ
 mismatches devices cs sink = option_map_or (λ (c : Carried). differ c.bits (width_at devices sink.0.1 sink.1))
     (carried_at cs sink.0.0) true
 
--- a consumer with its RPDO and what that maps
-unfoldable pub consumer_by : Had → Devices → Sinks → List Carried → ℕ → Option Consumer
-consumer_by had devices sinks cs node =
-    option_map (λ number. record { node = node; rpdo = number; mapping = taken_of_all devices sinks node cs })
-    (rpdo_for had devices (length cs) node)
+-- the sender's PDO has what its writes name, or in version 3 serves the message
+abbrev pub has_objects_by : Devices → Linked → List Carried → Bool
+has_objects_by devices m cs =
+    option_map_or (λ made. option_map_or (serves_message m cs) (made m.message.node) false)
+    devices.vendor (has_named_objects devices m (length cs))
+
+-- a consumer with its RPDO, what that maps, and its event time
+unfoldable pub consumer_by : Had → Devices → Linked → List Carried → Option ℕ → ℕ → Option Consumer
+consumer_by had devices m cs identifier node =
+    option_map (λ number. record {
+      node = node;
+      rpdo = number;
+      mapping = taken_of_all devices m.sinks node cs;
+      event = event_named m node;
+    })
+    (rpdo_by had devices m cs identifier node)
 
 -- a clean message with its identifier
 abbrev pub clean_by : Had → Devices → Linked → List Carried → List ℕ → ℕ → Clean
@@ -33,5 +44,5 @@ clean_by had devices m cs nodes id = record {
   start = m.start;
   identifier = id;
   mapping = sent_by cs;
-  consumers = filter_map (consumer_by had devices m.sinks cs) nodes;
+  consumers = filter_map (consumer_by had devices m cs (Some id)) nodes;
 }

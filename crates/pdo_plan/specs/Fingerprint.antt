@@ -16,7 +16,7 @@ abbrev pub with_mapped : ℕ → Mapped → ℕ
 with_mapped fingerprint m = mix (mix (mix fingerprint m.index) m.sub) m.bits
 
 abbrev pub with_consumer : ℕ → Consumer → ℕ
-with_consumer fingerprint k = fold with_mapped (mix (mix fingerprint k.node) k.rpdo) k.mapping
+with_consumer fingerprint k = fold with_mapped (mix (mix (mix fingerprint k.node) k.rpdo) k.event) k.mapping
 
 abbrev pub with_message : ℕ → Message → ℕ
 with_message fingerprint m =

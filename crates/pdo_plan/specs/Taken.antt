@@ -8,12 +8,18 @@ use Rattle.pdo_plan.specs.declared.clean.Clean.{Clean}
 use Rattle.pdo_plan.specs.declared.outcome.Outcome.{Outcome}
 use Rattle.pdo_plan.specs.declared.outcome.Outcome.TheVariants.{Planned, Faulty}
 use Rattle.pdo_plan.specs.declared.taken.Taken.{Taken}
+use Rattle.pdo_stations.specs.Devices.{Devices}
 use Rattle.pdo_stations.specs.Flags.{is_flagged}
+use Rattle.pdo_stations.specs.Stations.{devices_in}
 use Rattle.pdo_plan.specs.Plan.{Had, is_at_node}
 
 -- a number at a node: by node, and then by number
 abbrev pub pair_cmp : ℕ × ℕ → ℕ × ℕ → Ordering
 pair_cmp a b = ordering_then (nat_cmp a.0 b.0) (nat_cmp a.1 b.1)
+
+-- the devices of its stations
+abbrev pub devices_known : Taken → Devices
+devices_known taken = devices_in taken.known.stations
 
 -- what the tables have
 abbrev pub had_in : Taken → Had
@@ -21,6 +27,10 @@ had_in taken = record {
   identifier = λ id. contains nat_cmp taken.identifiers id;
   tpdo = λ node number. contains pair_cmp taken.tpdos (node, number);
   rpdo = λ node number. is_flagged taken.rpdos.flags.items node number;
+  withheld = record {
+    identifier = λ id. contains nat_cmp taken.known.withheld id;
+    rpdo = λ node number. contains pair_cmp taken.withheld_rpdos (node, number);
+  };
 }
 
 -- what is had when one more clean message has its own
@@ -29,6 +39,7 @@ had_too had c = record {
   identifier = λ id. had.identifier id || c.identifier == id;
   tpdo = λ node number. had.tpdo node number || ((c.message.node == node) && (c.message.tpdo == number));
   rpdo = λ node number. had.rpdo node number || list_any (is_at_node node number) c.consumers;
+  withheld = had.withheld;
 }
 
 -- when the message of an outcome, where it is clean, has its own

@@ -47,6 +47,7 @@ impl Item for Consumer {
     fn is_same(&self, other: &Consumer) -> bool {
         self.node == other.node
             && self.rpdo == other.rpdo
+            && self.event == other.event
             && are_same(self.mapping.as_slice(), other.mapping.as_slice())
     }
 }

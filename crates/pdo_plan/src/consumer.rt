@@ -12,4 +12,6 @@ pub struct Consumer {
     pub rpdo: u16,
     /// What the RPDO maps.
     pub mapping: Listed<Mapped>,
+    /// The event time of the RPDO in milliseconds, within which a frame is expected; 0 for the one that it has.
+    pub event: u16,
 }

@@ -1,30 +1,52 @@
 //! The faults of a message.
 ghost use Rattle.std.specs.Prelude.{◌≡◌, ◌≤◌, ◌==◌, ◌&&◌, not, length, is_none, is_some, IfOk};
 ghost use Rattle.std.specs.List.{list_any};
-ghost use Rattle.pdo_plan.specs.Plan.{rpdo_for, identifier_for, consumers_of, faults_that_hold, faults};
+ghost use Rattle.pdo_plan.specs.Carried.{has_objects_by};
+ghost use Rattle.pdo_plan.specs.Plan.{rpdo_by, identifier_for, sought_identifier, consumers_of, faults_that_hold, faults};
+ghost use Rattle.project_messages.specs.Messages.{IsLinked};
 ghost use Rattle.pdo_stations.specs.Carried.{carried_of, lacks_some};
 ghost use Rattle.pdo_stations.specs.Stations.{devices_in};
-ghost use Rattle.pdo_plan.specs.Taken.{had_in};
+ghost use Rattle.pdo_plan.specs.Taken.{devices_known, had_in};
 
 use crate::entry_faults::entry_faults;
 use crate::listed::Listed;
 use crate::message_fault::MessageFault;
-use crate::rpdos::rpdo_for;
+use crate::rpdos::rpdo_by;
 use crate::taken::Taken;
+use crate::wish::Wish;
 use cia301::TransmissionType;
 use pdo_stations::{Carried, Stations, has_tpdo, lacks_dummy, total_bits};
-use project_messages::{Linked, Sinks};
+use project_messages::Sinks;
 use std::alloc::{AllocError, Global};
+use vendor_pdos::sends;
 
-/// Whether a consumer has no free RPDO for so many mapping entries.
-fn lacks_rpdo(stations: &Stations, taken: &Taken, consumers: &[u8], count: usize) -> bool
-    requires { count ≤ 64 }
-    ensures { result
-        ≡ list_any (λ node. is_none (rpdo_for (had_in taken.now) (devices_in stations.now) count node)) consumers.now }
+/// Whether the sender's TPDO, up to 512, has what its writes name, or in version 3 serves the message.
+fn has_objects(stations: &Stations, wish: &Wish) -> bool
+    requires number { wish.now.linked.now.message.tpdo ≤ 512 }
+    requires few { length wish.now.carried.now ≤ 64 }
+    ensures { result ≡ has_objects_by (devices_in stations.now) wish.now.linked.now wish.now.carried.now }
+{
+    let linked = wish.linked;
+    let carried = wish.carried;
+    if !stations.is_three() {
+        return has_tpdo(stations, linked, carried.len());
+    }
+    match stations.made(linked.message.node) {
+        Some(device) => sends(device, linked, carried),
+        None => false,
+    }
+}
+
+/// Whether a consumer has no RPDO for the message.
+fn lacks_rpdo(taken: &Taken, wish: &Wish, consumers: &[u8]) -> bool
+    requires linked { IsLinked wish.now.linked.now }
+    requires few { length wish.now.carried.now ≤ 64 }
+    ensures { let w = wish.now in result ≡ list_any (λ node. is_none (rpdo_by (had_in taken.now)
+        (devices_known taken.now) w.linked.now w.carried.now w.identifier node)) consumers.now }
 {
     consumers
         .iter()
-        .any(|node| rpdo_for(stations, taken, *node, count).is_none())
+        .any(|node| rpdo_by(taken, wish, *node).is_none())
 }
 
 /// Whether a consumer needs a dummy that it doesn't allow.
@@ -69,42 +91,42 @@ fn lacks_identifier(cob: u16, has_identifier: bool) -> bool
     cob == 0 && !has_identifier
 }
 
-/// All faults of a message with these sources and consumers, which can have an identifier or not.
+/// All faults of a message with these consumers, which can have an identifier or not.
 pub(crate) fn faults(
     alloc: Global,
-    stations: &Stations,
     taken: &Taken,
-    linked: &Linked,
-    carried: &[Carried],
+    wish: &Wish,
     consumers: &[u8],
     has_identifier: bool,
 ) -> Result<Listed<MessageFault>, AllocError>
-    requires number { linked.now.message.tpdo ≤ 512 }
-    requires few { length carried.now ≤ 64 }
-    requires sources { carried.now ≡ carried_of (devices_in stations.now) linked.now.message.node linked.now.sources }
-    requires consumers { consumers.now ≡ consumers_of linked.now.sinks }
-    requires identifier { has_identifier ≡ is_some (identifier_for (had_in taken.now) linked.now.message) }
-    ensures { IfOk result (λ found. found ≡ faults (had_in taken.now) (devices_in stations.now) linked.now) }
+    requires number { wish.now.linked.now.message.tpdo ≤ 512 }
+    requires few { length wish.now.carried.now ≤ 64 }
+    requires linked { IsLinked wish.now.linked.now }
+    requires sources { wish.now.carried.now ≡ carried_of (devices_known taken.now) wish.now.linked.now.message.node
+        wish.now.linked.now.sources }
+    requires consumers { consumers.now ≡ consumers_of wish.now.linked.now.sinks }
+    requires identifier { has_identifier ≡ is_some (identifier_for (had_in taken.now) (devices_known taken.now)
+        wish.now.linked.now.message) }
+    requires sought { wish.now.identifier ≡ sought_identifier (had_in taken.now) (devices_known taken.now)
+        wish.now.linked.now.message }
+    ensures { IfOk result (λ found. found ≡ faults (had_in taken.now) (devices_known taken.now) wish.now.linked.now) }
 {
+    let linked = wish.linked;
     let message = &linked.message;
-    let sinks = &linked.sinks;
-    let count = carried.len();
-    let entries = entry_faults(stations, linked, carried);
+    let stations = &taken.known.stations;
+    let entries = entry_faults(stations, linked, wish.carried);
     let tests = [
-        (!has_tpdo(stations, linked, count), MessageFault::NoObjects),
+        (!has_objects(stations, wish), MessageFault::NoObjects),
         (
             taken.tpdos.contains(&(message.node, message.tpdo)),
             MessageFault::TpdoTaken,
         ),
-        (total_bits(carried) > 64, MessageFault::TooManyBits),
+        (total_bits(wish.carried) > 64, MessageFault::TooManyBits),
         (entries.unmappable, MessageFault::NotMappable),
         (entries.mismatched, MessageFault::Mismatched),
+        (lacks_rpdo(taken, wish, consumers), MessageFault::NoRpdo),
         (
-            lacks_rpdo(stations, taken, consumers, count),
-            MessageFault::NoRpdo,
-        ),
-        (
-            lacks_any_dummy(stations, carried, sinks, consumers),
+            lacks_any_dummy(stations, wish.carried, &linked.sinks, consumers),
             MessageFault::NoDummy,
         ),
         (

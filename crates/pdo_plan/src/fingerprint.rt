@@ -51,7 +51,8 @@ impl Part for Consumer {
     fn put_behind(&self, fingerprint: u64) -> u64 {
         let named = mix(fingerprint, u64::from(self.node));
         let numbered = mix(named, u64::from(self.rpdo));
-        with_all(numbered, self.mapping.as_slice())
+        let timed = mix(numbered, u64::from(self.event));
+        with_all(timed, self.mapping.as_slice())
     }
 }
 

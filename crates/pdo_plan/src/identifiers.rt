@@ -1,22 +1,40 @@
 //! The identifier of a message.
-ghost use Rattle.std.specs.Prelude.{◌≡◌, not};
-ghost use Rattle.std.specs.Ordering.{nat_cmp};
-ghost use Rattle.std.specs.BTreeSet.{contains};
+ghost use Rattle.std.specs.Prelude.{◌≡◌, ◌≤◌};
 ghost use Rattle.pdo_plan.specs.Least.{least_free};
-ghost use Rattle.pdo_plan.specs.Plan.{explicit, automatic, identifier_for};
-ghost use Rattle.pdo_plan.specs.Taken.{had_in};
+ghost use Rattle.pdo_plan.specs.Plan.{explicit, automatic, fixed_for, identifier_for, is_free_identifier, sought_identifier};
+ghost use Rattle.pdo_plan.specs.Taken.{devices_known, had_in};
+ghost use Rattle.cia301.specs.PdoObjects.{tpdo_object};
+ghost use Rattle.pdo_stations.specs.Stations.{devices_in};
+ghost use Rattle.vendor_pdos.specs.Fixed.{fixed_at};
 
 use crate::taken::Taken;
-use cia301::is_restricted;
+use cia301::{is_restricted, tpdo_object};
+use pdo_stations::Stations;
 use project_messages::Message;
-use std::collections::BTreeSet;
+use vendor_pdos::fixed_identifier;
 
-/// The least of the identifiers from 681h to 6DFh that isn't taken.
-fn least_of_pool(identifiers: &BTreeSet<u16>) -> Option<u16>
-    ensures { result ≡ least_free (λ n. not (contains nat_cmp identifiers.now n)) 0x681 95 }
+/// The identifiers of a message.
+#[derive(Clone, Copy)]
+pub(crate) struct Identifiers {
+    /// The one that it has, where it can have one.
+    pub own: Option<u16>,
+    /// The one by which its receivers are sought, though it may be one that it can't have.
+    pub sought: Option<u16>,
+}
+
+/// Whether no clean message has an identifier, and no closed PDO waits for it.
+fn is_free(taken: &Taken, identifier: u16) -> bool
+    ensures { result ≡ is_free_identifier (had_in taken.now) identifier }
+{
+    !taken.identifiers.contains(&identifier) && !taken.known.withheld.contains(&identifier)
+}
+
+/// The least of the identifiers from 681h to 6DFh that is free.
+fn least_of_pool(taken: &Taken) -> Option<u16>
+    ensures { result ≡ least_free (is_free_identifier (had_in taken.now)) 0x681 95 }
 {
     for number in 0x681..0x6E0 {
-        if !identifiers.contains(&number) {
+        if is_free(taken, number) {
             return Some(number);
         }
     }
@@ -40,21 +58,54 @@ fn automatic(taken: &Taken, node: u8, tpdo: u16) -> Option<u16>
 {
     if tpdo <= 4 {
         let predefined = 0x80 + 0x100 * tpdo + u16::from(node);
-        if !taken.identifiers.contains(&predefined) {
+        if is_free(taken, predefined) {
             return Some(predefined);
         }
     }
-    least_of_pool(&taken.identifiers)
+    least_of_pool(taken)
 }
 
-/// The identifier of a message, where it can have one.
-#[tactic(auto, unfolding(crate::specs::Plan::identifier_for))]
-pub(crate) fn identifier_for(taken: &Taken, message: &Message) -> Option<u16>
-    ensures { result ≡ identifier_for (had_in taken.now) message.now }
+/// The fixed identifier of a TPDO, where a message may have it: it names it or leaves its own open.
+fn fixed_for(taken: &Taken, cob: u16, fixed: u16) -> Option<u16>
+    ensures { result ≡ fixed_for (had_in taken.now) cob fixed }
 {
-    if message.cob == 0 {
-        automatic(taken, message.node, message.tpdo)
+    if cob == 0 || cob == fixed {
+        explicit(taken, fixed)
     } else {
-        explicit(taken, message.cob)
+        None
+    }
+}
+
+/// The fixed identifier of a TPDO, up to 512, of a node, in version 3.
+fn fixed_at(stations: &Stations, node: u8, tpdo: u16) -> Option<u16>
+    requires { tpdo ≤ 512 }
+    ensures { result ≡ fixed_at (devices_in stations.now) node (tpdo_object tpdo) }
+{
+    fixed_identifier(stations.made(node)?, tpdo_object(tpdo))
+}
+
+/// The identifiers of a message of a TPDO up to 512.
+#[tactic(auto, unfolding(crate::specs::Plan::identifier_for))]
+pub(crate) fn identifiers_of(taken: &Taken, message: &Message) -> Identifiers
+    requires { message.now.tpdo ≤ 512 }
+    ensures own { result.own ≡ identifier_for (had_in taken.now) (devices_known taken.now) message.now }
+    ensures sought { result.sought ≡ sought_identifier (had_in taken.now) (devices_known taken.now) message.now }
+{
+    if let Some(fixed) = fixed_at(&taken.known.stations, message.node, message.tpdo) {
+        return Identifiers {
+            own: fixed_for(taken, message.cob, fixed),
+            sought: Some(fixed),
+        };
+    }
+    if message.cob == 0 {
+        let identifier = automatic(taken, message.node, message.tpdo);
+        return Identifiers {
+            own: identifier,
+            sought: identifier,
+        };
+    }
+    Identifiers {
+        own: explicit(taken, message.cob),
+        sought: Some(message.cob),
     }
 }

@@ -1,87 +1,90 @@
 //! What is said of one message.
-ghost use Rattle.std.specs.Prelude.{◌≡◌, ◌≤◌, length, filter_map, IfOk};
+ghost use Rattle.std.specs.Prelude.{◌≡◌, ◌≤◌, length, filter_map, IfOk, Some};
 ghost use Rattle.project_messages.specs.Messages.{IsLinked};
 ghost use Rattle.pdo_plan.specs.Carried.{consumer_by, clean_by};
 ghost use Rattle.pdo_plan.specs.Plan.{judged_message};
-ghost use Rattle.pdo_stations.specs.Stations.{devices_in};
-ghost use Rattle.pdo_plan.specs.Taken.{had_in};
+ghost use Rattle.pdo_plan.specs.Taken.{devices_known, had_in};
 
 use crate::clean::Clean;
 use crate::consumer::Consumer;
 use crate::consumers::consumers_of;
 use crate::faults::faults;
-use crate::identifiers::identifier_for;
+use crate::identifiers::identifiers_of;
 use crate::listed::Listed;
+use crate::named::event_named;
 use crate::outcome::Outcome;
-use crate::rpdos::rpdo_for;
+use crate::rpdos::rpdo_by;
 use crate::taken::Taken;
-use pdo_stations::{Carried, Stations, carried_sources, sent_mapping, taken_mapping};
-use project_messages::{Linked, Sinks};
+use crate::wish::Wish;
+use pdo_stations::{carried_sources, sent_mapping, taken_mapping};
+use project_messages::Linked;
 use std::alloc::{AllocError, Global};
 
-/// A consumer with its least free RPDO and what that maps, where it has one.
+/// A consumer with its RPDO, what that maps and its event time, where it has one.
 #[tactic(auto, unfolding(crate::specs::Carried::consumer_by))]
 fn consumer_by(
     alloc: Global,
-    stations: &Stations,
     taken: &Taken,
-    sinks: &Sinks,
-    carried: &[Carried],
+    wish: &Wish,
     node: u8,
 ) -> Result<Option<Consumer>, AllocError>
-    requires { length carried.now ≤ 64 }
-    ensures { IfOk result (λ consumer. consumer ≡ consumer_by (had_in taken.now)
-        (devices_in stations.now) sinks.now carried.now node) }
+    requires linked { IsLinked wish.now.linked.now }
+    requires few { length wish.now.carried.now ≤ 64 }
+    ensures { let w = wish.now in IfOk result (λ consumer. consumer ≡ consumer_by (had_in taken.now)
+        (devices_known taken.now) w.linked.now w.carried.now w.identifier node) }
 {
-    let Some(rpdo) = rpdo_for(stations, taken, node, carried.len()) else {
+    let Some(rpdo) = rpdo_by(taken, wish, node) else {
         return Ok(None);
     };
-    let mapping = taken_mapping(alloc, stations, sinks, node, carried)?;
+    let linked = wish.linked;
+    let stations = &taken.known.stations;
+    let mapping = taken_mapping(alloc, stations, &linked.sinks, node, wish.carried)?;
     Ok(Some(Consumer {
         node,
         rpdo,
         mapping: Listed::from_vec(mapping),
+        event: event_named(linked, node),
     }))
 }
 
-/// The consumers that have a free RPDO.
+/// The consumers that have an RPDO for the message.
 fn planned_consumers(
     alloc: Global,
-    stations: &Stations,
     taken: &Taken,
-    sinks: &Sinks,
-    carried: &[Carried],
+    wish: &Wish,
     nodes: &[u8],
 ) -> Result<Listed<Consumer>, AllocError>
-    requires { length carried.now ≤ 64 }
-    ensures { IfOk result (λ consumers. consumers
-        ≡ filter_map (consumer_by (had_in taken.now) (devices_in stations.now) sinks.now carried.now) nodes.now) }
+    requires linked { IsLinked wish.now.linked.now }
+    requires few { length wish.now.carried.now ≤ 64 }
+    ensures { let w = wish.now in IfOk result (λ consumers. consumers ≡ filter_map (consumer_by (had_in taken.now)
+        (devices_known taken.now) w.linked.now w.carried.now w.identifier) nodes.now) }
 {
     let mut consumers = Vec::new(alloc);
     for node in nodes {
-        if let Some(consumer) = consumer_by(alloc, stations, taken, sinks, carried, *node)? {
+        if let Some(consumer) = consumer_by(alloc, taken, wish, *node)? {
             consumers.push(consumer)?;
         }
     }
     Ok(Listed::from_vec(consumers))
 }
 
-/// A message that can be sent with this identifier.
+/// A message that can be sent with this identifier, the one of the wish.
 fn clean(
     alloc: Global,
-    stations: &Stations,
     taken: &Taken,
-    linked: &Linked,
-    carried: &[Carried],
+    wish: &Wish,
     nodes: &[u8],
     identifier: u16,
 ) -> Result<Clean, AllocError>
-    requires { length carried.now ≤ 64 }
-    ensures { IfOk result (λ clean. clean ≡ clean_by (had_in taken.now)
-        (devices_in stations.now) linked.now carried.now nodes.now identifier) }
+    requires linked { IsLinked wish.now.linked.now }
+    requires few { length wish.now.carried.now ≤ 64 }
+    requires identifier { wish.now.identifier ≡ Some identifier }
+    ensures { let w = wish.now in IfOk result (λ clean. clean ≡ clean_by (had_in taken.now)
+        (devices_known taken.now) w.linked.now w.carried.now nodes.now identifier) }
 {
-    let mapping = sent_mapping(alloc, carried)?;
-    let consumers = planned_consumers(alloc, stations, taken, &linked.sinks, carried, nodes)?;
+    let linked = wish.linked;
+    let mapping = sent_mapping(alloc, wish.carried)?;
+    let consumers = planned_consumers(alloc, taken, wish, nodes)?;
     Ok(Clean {
         message: linked.message,
         start: linked.start,
@@ -92,34 +95,25 @@ fn clean(
 }
 
 /// What is said of a message.
-pub(crate) fn judge(
-    alloc: Global,
-    stations: &Stations,
-    taken: &Taken,
-    linked: &Linked,
-) -> Result<Outcome, AllocError>
+pub(crate) fn judge(alloc: Global, taken: &Taken, linked: &Linked) -> Result<Outcome, AllocError>
     requires { IsLinked linked.now }
     ensures { IfOk result (λ outcome. outcome ≡ judged_message (had_in taken.now)
-        (devices_in stations.now) linked.now) }
+        (devices_known taken.now) linked.now) }
 {
-    let looked_up = carried_sources(alloc, stations, linked.message.node, &linked.sources)?;
-    let carried = looked_up.as_slice();
+    let stations = &taken.known.stations;
+    let carried = carried_sources(alloc, stations, linked.message.node, &linked.sources)?;
     let named = consumers_of(alloc, &linked.sinks)?;
     let nodes = named.as_slice();
-    let identifier = identifier_for(taken, &linked.message);
-    let has_identifier = identifier.is_some();
-    let faults = faults(
-        alloc,
-        stations,
-        taken,
+    let identifiers = identifiers_of(taken, &linked.message);
+    let wish = Wish {
         linked,
-        carried,
-        nodes,
-        has_identifier,
-    )?;
-    match identifier {
+        carried: carried.as_slice(),
+        identifier: identifiers.sought,
+    };
+    let faults = faults(alloc, taken, &wish, nodes, identifiers.own.is_some())?;
+    match identifiers.own {
         Some(identifier) if faults.as_slice().is_empty() => {
-            let clean = clean(alloc, stations, taken, linked, carried, nodes, identifier)?;
+            let clean = clean(alloc, taken, &wish, nodes, identifier)?;
             Ok(Outcome::Planned(clean))
         }
         _ => Ok(Outcome::Faulty(faults)),

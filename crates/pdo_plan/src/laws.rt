@@ -1,5 +1,5 @@
 //! Laws of the plan, each a function whose contract is the law.
-ghost use Rattle.std.specs.Prelude.{◌≡◌, ◌↔◌, ◌≤◌, ◌==◌, ℕ, Bool, true, List, [], length, take, All, Option, Some};
+ghost use Rattle.std.specs.Prelude.{◌≡◌, ◌↔◌, ◌≤◌, ◌==◌, ℕ, Bool, false, true, List, [], length, take, All, Option, Some};
 ghost use Rattle.std.specs.Prelude.{IsFalse, slice_get};
 ghost use Rattle.std.specs.FinMap as map;
 ghost use Rattle.std.specs.Map.{lookup};
@@ -13,8 +13,10 @@ ghost use Rattle.pdo_plan.specs.declared.message_fault.MessageFault.{MessageFaul
 ghost use Rattle.pdo_plan.specs.declared.outcome.Outcome.TheVariants as says;
 ghost use Rattle.pdo_plan.specs.declared.planned_message.PlannedMessage.{PlannedMessage as Said};
 ghost use Rattle.pdo_stations.specs.Devices.{Devices, devices_of};
+ghost use Rattle.pdo_stations.specs.declared.as_made.AsMade.{AsMade};
 ghost use Rattle.pdo_plan.specs.Least.{least_free, IsLeastFree};
 ghost use Rattle.pdo_plan.specs.Plan.{Had, had_by, identifier_for, faults, judged_message, planned_message, clean};
+ghost use Rattle.pdo_plan.specs.Plan.{withheld_by, IsServed};
 ghost use Rattle.pdo_plan.specs.Plan.{plan_of, FitFrames, IsMadeFor};
 
 /// The least free number is free, and none of those before it is; there is none where no number is
@@ -29,10 +31,17 @@ pub fn least_free_is_least()
 pub fn a_message_without_a_fault_is_clean()
     ensures clean { (had : Had) (devices : Devices) (m : Linked) (c : Sent)
         → judged_message had devices m ≡ says.Planned c
-        → (faults had devices m ≡ []) × (identifier_for had m.message ≡ Some c.identifier) }
+        → (faults had devices m ≡ []) × (identifier_for had devices m.message ≡ Some c.identifier) }
     ensures faulty { (had : Had) (devices : Devices) (m : Linked) (fs : List Fault)
         → judged_message had devices m ≡ says.Faulty fs
         → (fs ≡ faults had devices m) × (1 ≤ length fs) }
+{}
+
+/// In version 3 the PDOs of a clean message serve it: what is wanted of each can be written or stands by default.
+#[tactic(auto, using(crate::proofs::ServedLemmas::served))]
+pub fn the_pdos_of_a_clean_message_serve_it()
+    ensures { (had : Had) (devices : Devices) (made : ℕ → Option AsMade) (m : Linked) (c : Sent)
+        → devices.vendor ≡ Some made → judged_message had devices m ≡ says.Planned c → IsServed devices made m c }
 {}
 
 /// Each message is judged against the clean ones before it alone.
@@ -42,7 +51,7 @@ pub fn each_is_judged_against_the_clean_ones_before_it()
     ensures judged { (devices : Devices) (ms : List (List ℕ × Linked)) (k : ℕ) (p : Said)
         → slice_get (plan_of devices ms) k ≡ Some p
         → (m : List ℕ × Linked) × (slice_get ms k ≡ Some m)
-        × (p ≡ planned_message (had_by (clean (take k (plan_of devices ms)))) devices m) }
+        × (p ≡ planned_message (had_by (withheld_by devices ms) (clean (take k (plan_of devices ms)))) devices m) }
 {}
 
 /// No two clean messages share an identifier.
@@ -86,7 +95,7 @@ pub fn mappings_fit_frames()
 pub fn plans_are_made_for_their_devices()
     ensures { (nodes : List (ℕ × List Section)) (ms : List (List ℕ × Linked)) (node : ℕ) (ss : List Section)
         → lookup (λ n. n == node) nodes ≡ Some ss
-        → IsMadeFor (plan_of (devices_of nodes) ms) ss node }
+        → IsMadeFor (plan_of (devices_of false nodes) ms) ss node }
 {}
 
 /// The plan asks only of the nodes that its messages name: those that send a message, or take a part
@@ -94,5 +103,5 @@ pub fn plans_are_made_for_their_devices()
 pub fn the_plan_asks_only_of_the_nodes_that_messages_name()
     ensures { (a b : List (ℕ × List Section)) (messages : Named)
         → ((node : ℕ) → is_of_messages node messages ≡ true → lookup (λ n. n == node) a ≡ lookup (λ n. n == node) b)
-        → plan_of (devices_of a) (map.entries messages) ≡ plan_of (devices_of b) (map.entries messages) }
+        → plan_of (devices_of false a) (map.entries messages) ≡ plan_of (devices_of false b) (map.entries messages) }
 {}

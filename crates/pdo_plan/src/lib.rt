@@ -14,11 +14,13 @@ pub mod laws;
 mod listed;
 mod message_fault;
 mod message_plan;
+mod named;
 mod outcome;
 mod planned_message;
 mod planning;
 mod rpdos;
 mod taken;
+mod wish;
 
 pub use clean::Clean;
 pub use consumer::Consumer;

@@ -1,24 +1,33 @@
-//! What the clean messages so far have taken.
-ghost use Rattle.std.specs.Prelude.{◌≡◌, ◌==◌, ◌||◌, ◌&&◌, ◌≤◌, ℕ, [], All, IfOk, OnOk};
+//! What the clean messages so far have taken, and what is withheld.
+ghost use Rattle.std.specs.Prelude.{◌≡◌, ◌==◌, ◌||◌, ◌&&◌, ◌≤◌, ℕ, [], is_some, All, IfOk, OnOk};
+ghost use Rattle.std.specs.FinMap as map;
 ghost use Rattle.std.specs.List.{list_any};
 ghost use Rattle.std.specs.Ordering.{nat_cmp};
 ghost use Rattle.std.specs.BTreeSet.{contains};
 ghost use Rattle.pdo_stations.specs.Flags.{is_flagged};
-ghost use Rattle.pdo_plan.specs.Plan.{had_by, is_at_node, IsWithin};
-ghost use Rattle.pdo_plan.specs.Taken.{pair_cmp, had_in, had_too};
+ghost use Rattle.pdo_stations.specs.Stations.{devices_in};
+ghost use Rattle.pdo_plan.specs.Plan.{had_by, is_at_node, names_rpdo, withheld_by, IsWithin};
+ghost use Rattle.pdo_plan.specs.Taken.{devices_known, pair_cmp, had_in, had_too};
 
 use crate::clean::Clean;
 use crate::consumer::Consumer;
-use pdo_stations::TakenRpdos;
+use crate::named::named_rpdos;
+use pdo_stations::{Stations, TakenRpdos};
+use project_messages::Messages;
 use std::alloc::{AllocError, Global};
 use std::collections::BTreeSet;
+use vendor_pdos::KnownStations;
 
-/// What the clean messages so far have taken.
+/// What the clean messages so far have taken of the nodes, and what is withheld from the plan's own choice.
 #[derive(Drop)]
 pub(crate) struct Taken {
+    /// The nodes, with the identifiers that they withhold.
+    pub known: KnownStations,
     pub identifiers: BTreeSet<u16>,
     pub tpdos: BTreeSet<(u8, u16)>,
     pub rpdos: TakenRpdos,
+    /// The RPDOs that receives name, by their nodes.
+    pub withheld_rpdos: BTreeSet<(u8, u16)>,
 }
 
 /// Takes an identifier.
@@ -50,23 +59,46 @@ fn take_rpdos(rpdos: &mut TakenRpdos, consumers: &[Consumer])
     }
 }
 
+/// The RPDOs that receives name; in versions 1 and 2 none is withheld.
+fn withheld_rpdos(
+    alloc: Global,
+    stations: &Stations,
+    messages: &Messages,
+) -> Result<BTreeSet<(u8, u16)>, AllocError>
+    ensures { IfOk result (λ rpdos. (q : ℕ × ℕ) → contains pair_cmp rpdos q ≡ (is_some (devices_in stations.now).vendor
+        && list_any (λ m. names_rpdo q.0 q.1 m.1) (map.entries messages.now))) }
+{
+    if stations.is_three() {
+        named_rpdos(alloc, messages)
+    } else {
+        Ok(BTreeSet::new(alloc))
+    }
+}
+
 impl Taken {
-    /// Nothing is taken.
-    pub fn new(alloc: Global) -> Result<Taken, AllocError>
-        ensures { IfOk result (λ taken. had_in taken ≡ had_by []) }
+    /// Nothing is taken of what these stations and messages don't withhold.
+    pub fn new(alloc: Global, stations: Stations, messages: &Messages) -> Result<Taken, AllocError>
+        ensures stations { IfOk result (λ taken. devices_known taken ≡ devices_in stations) }
+        ensures had { IfOk result (λ taken. had_in taken
+            ≡ had_by (withheld_by (devices_in stations) (map.entries messages.now)) []) }
     {
         let rpdos = TakenRpdos::new(alloc)?;
+        let withheld_rpdos = withheld_rpdos(alloc, &stations, messages)?;
+        let known = KnownStations::new(alloc, stations)?;
         Ok(Taken {
+            known,
             identifiers: BTreeSet::new(alloc),
             tpdos: BTreeSet::new(alloc),
             rpdos,
+            withheld_rpdos,
         })
     }
 
     /// Takes what a clean message has.
     pub fn take(&mut self, clean: &Clean) -> Result<(), AllocError>
         requires { IsWithin clean.now }
-        ensures { OnOk result (had_in self.new ≡ had_too (had_in self.old) clean.now) }
+        ensures stations { OnOk result (devices_known self.new ≡ devices_known self.old) }
+        ensures had { OnOk result (had_in self.new ≡ had_too (had_in self.old) clean.now) }
     {
         take_identifier(&mut self.identifiers, clean.identifier)?;
         take_tpdo(&mut self.tpdos, clean.message.node, clean.message.tpdo)?;

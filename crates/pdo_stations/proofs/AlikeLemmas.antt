@@ -1,37 +1,39 @@
 -- What a PDO of a node has goes by the entries of the node alone.
-use Rattle.std.proofs.Common.{◌≡◌, ℕ, false, List, Option, Some, None, option_and_then, ap, refl, sym}
+use Rattle.std.proofs.Common.{◌≡◌, ℕ, false, Option, Some, None, option_and_then, ap, refl, sym}
 use Rattle.std.specs.FinMap.{get}
 use Rattle.co_dict.specs.declared.entry.Entry.{Entry}
 use Rattle.co_dict.specs.Shapes.{Shaped}
 use Rattle.pdo_stations.specs.Devices.{Devices, has_mapping, has_pdo, has_start, has_times}
 use Rattle.pdo_stations.specs.Rooms.{device_with}
-use Rattle.pdo_stations.specs.Stations.{shape_at, devices_in}
+use Rattle.pdo_stations.specs.Seats.{shape_at}
+use Rattle.pdo_stations.specs.Stations.{devices_in}
+use Rattle.pdo_stations.specs.declared.stations.Stations.{Stations}
 
 pub pdo_alike : (d e : Devices) (m n object count : ℕ) → d.entry m ≡ e.entry n
     → has_pdo d m object count ≡ has_pdo e n object count
 unfolding has_mapping
 pdo_alike d e m n object count same = ap (λ (f : ℕ × ℕ → Option Entry). let one : Devices =
-    record { entry = λ node. f; dummy = λ node kind. false } in has_pdo one 0 object count) same
+    record { entry = λ node. f; dummy = λ node kind. false; vendor = None } in has_pdo one 0 object count) same
 
 pub times_alike : (d e : Devices) (m n object inhibit event : ℕ) → d.entry m ≡ e.entry n
     → has_times d m object inhibit event ≡ has_times e n object inhibit event
 times_alike d e m n object inhibit event same =
-    ap (λ (f : ℕ × ℕ → Option Entry). let one : Devices = record { entry = λ node. f; dummy = λ node kind. false }
+    ap (λ (f : ℕ × ℕ → Option Entry). let one : Devices = record { entry = λ node. f; dummy = λ node kind. false; vendor = None }
     in has_times one 0 object inhibit event) same
 
 pub start_alike : (d e : Devices) (m n object start : ℕ) → d.entry m ≡ e.entry n
     → has_start d m object start ≡ has_start e n object start
 start_alike d e m n object start same =
-    ap (λ (f : ℕ × ℕ → Option Entry). let one : Devices = record { entry = λ node. f; dummy = λ node kind. false }
+    ap (λ (f : ℕ × ℕ → Option Entry). let one : Devices = record { entry = λ node. f; dummy = λ node kind. false; vendor = None }
     in has_start one 0 object start) same
 
 -- the entries of a node with a station
-pub entries_at : (stations : List (ℕ × Shaped)) (node : ℕ) (shape : Shaped) → shape_at stations node ≡ Some shape
+pub entries_at : (stations : Stations) (node : ℕ) (shape : Shaped) → shape_at stations.seats node ≡ Some shape
     → (devices_in stations).entry node ≡ (device_with shape).entry 0
 entries_at stations node shape at = λ i place. option_and_then (λ (s : Shaped). get s.entries place) (at i)
 
 -- and of one without
-none_at : (stations : List (ℕ × Shaped)) (node : ℕ) (place : ℕ × ℕ) → shape_at stations node ≡ None
+none_at : (stations : Stations) (node : ℕ) (place : ℕ × ℕ) → shape_at stations.seats node ≡ None
     → (devices_in stations).entry node place ≡ None
 none_at stations node place at = ap (option_and_then (λ (s : Shaped). get s.entries place)) at
 
@@ -39,26 +41,26 @@ no_pdo : (d : Devices) (n object count : ℕ) → d.entry n (object, 1) ≡ None
 no_pdo d n object count e = rw e refl
 
 -- a PDO of a node with a station
-pub pdo_at : (stations : List (ℕ × Shaped)) (node object count : ℕ) (shape : Shaped)
-    → shape_at stations node ≡ Some shape
+pub pdo_at : (stations : Stations) (node object count : ℕ) (shape : Shaped)
+    → shape_at stations.seats node ≡ Some shape
     → has_pdo (device_with shape) 0 object count ≡ has_pdo (devices_in stations) node object count
 pdo_at stations node object count shape at = pdo_alike (device_with shape)
     (devices_in stations) 0 node object count (sym (entries_at stations node shape at))
 
-pub times_at : (stations : List (ℕ × Shaped)) (node object inhibit event : ℕ) (shape : Shaped)
-    → shape_at stations node ≡ Some shape
+pub times_at : (stations : Stations) (node object inhibit event : ℕ) (shape : Shaped)
+    → shape_at stations.seats node ≡ Some shape
     → has_times (device_with shape) 0 object inhibit event ≡ has_times (devices_in stations) node object inhibit event
 times_at stations node object inhibit event shape at = times_alike (device_with shape)
     (devices_in stations) 0 node object inhibit event (sym (entries_at stations node shape at))
 
-pub start_at : (stations : List (ℕ × Shaped)) (node object start : ℕ) (shape : Shaped)
-    → shape_at stations node ≡ Some shape
+pub start_at : (stations : Stations) (node object start : ℕ) (shape : Shaped)
+    → shape_at stations.seats node ≡ Some shape
     → has_start (device_with shape) 0 object start ≡ has_start (devices_in stations) node object start
 start_at stations node object start shape at = start_alike (device_with shape)
     (devices_in stations) 0 node object start (sym (entries_at stations node shape at))
 
 -- a node without a station has none
-pub no_pdo_at : (stations : List (ℕ × Shaped)) (node object count : ℕ) → shape_at stations node ≡ None
+pub no_pdo_at : (stations : Stations) (node object count : ℕ) → shape_at stations.seats node ≡ None
     → false ≡ has_pdo (devices_in stations) node object count
 no_pdo_at stations node object count at =
     sym (no_pdo (devices_in stations) node object count (none_at stations node (object, 1) at))

@@ -8,7 +8,7 @@ use Rattle.std.proofs.lemmas.Bool.{false≢true}
 use Rattle.std.proofs.lemmas.Bool.Decides.{nat_tests}
 use Rattle.std.proofs.lemmas.List.{get_or-set_same, get_or-set_other}
 use Rattle.co_dict.specs.Shapes.{Shaped}
-use Rattle.pdo_stations.specs.Stations.{shape_at, seats_by_number}
+use Rattle.pdo_stations.specs.Seats.{shape_at, seats_by_number}
 
 not_at : (node number : ℕ) → node < number → is_at (nat_cmp node) number ≡ false
 not_at node number below = grind (arith, nat_tests)
@@ -54,11 +54,19 @@ empty_more [] first = refl
 empty_more (None ∷ seats) first = empty_more seats (first + 1)
 empty_more (Some shape ∷ seats) first = ap (λ rest. (first, shape) ∷ rest) (empty_more seats (first + 1))
 
--- a seat is taken
-pub seat_taken : (seats : List (Option Shaped)) (number : ℕ) (shape : Shaped) → number < length seats → (node : ℕ)
-    → shape_at (seats_by_number 0 (set seats number (Some shape))) node
-    ≡ (if number == node then Some shape else shape_at (seats_by_number 0 seats) node)
-seat_taken seats number shape below node = seat_at (set seats number (Some shape)) node ∙ by (number == node) refl
+-- ---- lists of seats
+
+-- one more that is empty
+pub none_more : {X : Type 0} (seats : List (Option X)) (node : ℕ) → get_or (seats ++ None ∷ []) node None ≡ get_or seats node None
+none_more [] zero = refl
+none_more [] (suc node) = refl
+none_more (seat ∷ seats) zero = refl
+none_more (seat ∷ seats) (suc node) = none_more seats node
+
+-- one is taken
+pub one_taken : {X : Type 0} (seats : List (Option X)) (number : ℕ) (x : X) → number < length seats → (node : ℕ)
+    → get_or (set seats number (Some x)) node None ≡ (if number == node then Some x else get_or seats node None)
+one_taken seats number x below node = by (number == node) refl
   where
     same : (number == node) ≡ true → node ≡ number
     same e = grind (arith, nat_tests)
@@ -69,8 +77,16 @@ seat_taken seats number shape below node = seat_at (set seats number (Some shape
     other : (number == node) ≡ false → node ≢ number
     other e = λ s. absurd (false≢true (sym e ∙ alike s))
 
-    by : (b : Bool) → (number == node) ≡ b → get_or (set seats number (Some shape)) node None
-        ≡ (if b then Some shape else shape_at (seats_by_number 0 seats) node)
-    by true e = ap (λ n. get_or (set seats number (Some shape)) n None) (same e)
-        ∙ get_or-set_same seats number (Some shape) None below
-    by false e = get_or-set_other seats number node (Some shape) None (other e) ∙ sym (seat_at seats node)
+    by : (b : Bool) → (number == node) ≡ b → get_or (set seats number (Some x)) node None
+        ≡ (if b then Some x else get_or seats node None)
+    by true e = ap (λ n. get_or (set seats number (Some x)) n None) (same e)
+        ∙ get_or-set_same seats number (Some x) None below
+    by false e = get_or-set_other seats number node (Some x) None (other e)
+
+-- a station's seat is taken
+pub seat_taken : (seats : List (Option Shaped)) (number : ℕ) (shape : Shaped) → number < length seats → (node : ℕ)
+    → shape_at (seats_by_number 0 (set seats number (Some shape))) node
+    ≡ (if number == node then Some shape else shape_at (seats_by_number 0 seats) node)
+seat_taken seats number shape below node =
+    seat_at (set seats number (Some shape)) node ∙ one_taken seats number shape below node
+    ∙ ap (λ o. if number == node then Some shape else o) (sym (seat_at seats node))

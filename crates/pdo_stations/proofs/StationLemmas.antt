@@ -14,9 +14,12 @@ use Rattle.ini_text.specs.Content.{Content, Section}
 use Rattle.co_dict.specs.Shapes.{Shaped, is_dummy_allowed}
 use Rattle.eds_device.specs.Entries.{entry_at, dummies_of, dummy_allowed, shape_of}
 use Rattle.eds_device.proofs.LawLemmas.{shape_at as shaped_at}
-use Rattle.pdo_stations.specs.Devices.{devices_of}
+use Rattle.pdo_stations.specs.Devices.{as_made, devices_of}
+use Rattle.pdo_stations.specs.declared.as_made.AsMade.{AsMade}
+use Rattle.pdo_stations.specs.declared.stations.Stations.{Stations}
 use Rattle.pdo_stations.specs.Shown.{nodes_of}
-use Rattle.pdo_stations.specs.Stations.{shape_at, devices_in}
+use Rattle.pdo_stations.specs.Seats.{shape_at}
+use Rattle.pdo_stations.specs.Stations.{devices_in}
 
 -- ---- dummies
 
@@ -71,17 +74,41 @@ allowed_shaped : (node kind : ℕ) (o : Option (List Section))
 allowed_shaped node kind None = refl
 allowed_shaped node kind (Some ss) = dummy_shaped ss node kind
 
-pub devices_alike : (stations : List (ℕ × Shaped)) (nodes : List (ℕ × List Section))
-    → ((node : ℕ) → shape_at stations node ≡ shaped node nodes) → devices_in stations ≡ devices_of nodes
-devices_alike stations nodes same =
+pub devices_alike : (stations : Stations) (is_three : Bool) (nodes : List (ℕ × List Section))
+    → ((node : ℕ) → shape_at stations.seats node ≡ shaped node nodes)
+    → (devices_in stations).vendor ≡ (devices_of is_three nodes).vendor → devices_in stations ≡ devices_of is_three nodes
+devices_alike stations is_three nodes same vendors =
     let entries : (node : ℕ) (place : ℕ × ℕ)
-    → (devices_in stations).entry node place ≡ (devices_of nodes).entry node place =
+    → (devices_in stations).entry node place ≡ (devices_of is_three nodes).entry node place =
     λ node place. ap (option_and_then (λ (s : Shaped). get s.entries place)) (same node)
     ∙ entry_shaped node place (lookup (λ n. n == node) nodes) in
-    let dummies : (node kind : ℕ) → (devices_in stations).dummy node kind ≡ (devices_of nodes).dummy node kind =
+    let dummies : (node kind : ℕ) → (devices_in stations).dummy node kind ≡ (devices_of is_three nodes).dummy node kind =
     λ node kind. ap (λ o. option_map_or (λ (s : Shaped). is_dummy_allowed s kind) o false) (same node)
     ∙ allowed_shaped node kind (lookup (λ n. n == node) nodes) in
-    λ i. record { entry = λ node place. entries node place i; dummy = λ node kind. dummies node kind i }
+    λ i. record {
+      entry = λ node place. entries node place i;
+      dummy = λ node kind. dummies node kind i;
+      vendor = vendors i;
+    }
+
+-- ---- devices as they were made
+
+abbrev pub made : ℕ → List (ℕ × List Section) → Option AsMade
+made node nodes = option_map (λ ss. as_made ss node) (lookup (λ n. n == node) nodes)
+
+pub made_more : (before after : List (Option AsMade)) (number : ℕ) (ss : List Section) (nodes : List (ℕ × List Section))
+    → ((node : ℕ) → get_or after node None ≡ (if number == node then Some (as_made ss number) else get_or before node None))
+    → ((node : ℕ) → get_or before node None ≡ made node nodes)
+    → (node : ℕ) → get_or after node None ≡ made node ((number, ss) ∷ nodes)
+made_more before after number ss nodes put so_far node = put node ∙ by (number == node) refl
+  where
+    same_number : (a b : ℕ) → (a == b) ≡ true → a ≡ b
+    same_number a b e = grind (arith, nat_tests)
+
+    by : (b : Bool) → (number == node) ≡ b → (if b then Some (as_made ss number) else get_or before node None)
+        ≡ option_map (λ ss. as_made ss node) (cond b (Some ss) (lookup (λ n. n == node) nodes))
+    by true e = ap (λ n. Some (as_made ss n)) (same_number number node e)
+    by false e = so_far node
 
 -- ---- one more node
 

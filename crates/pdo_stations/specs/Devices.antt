@@ -1,5 +1,6 @@
 -- What the devices of a project say of their entries (CiA 301), as the plan of messages asks it.
-use Rattle.std.specs.Prelude.{ℕ, ◌==◌, ◌&&◌, ◌||◌, Bool, true, false, List, Option, option_and_then}
+use Rattle.std.specs.Prelude.{ℕ, ◌==◌, ◌&&◌, ◌||◌, Bool, true, false, if◌then◌else◌, List, Option, Some, None}
+use Rattle.std.specs.Prelude.{option_map, option_and_then}
 use Rattle.std.specs.List.{list_all, range_with_len}
 use Rattle.std.specs.Map.{lookup}
 use Rattle.std.specs.Option.{option_map_or}
@@ -13,19 +14,32 @@ use Rattle.co_dict.specs.declared.direction.Direction.{Direction}
 use Rattle.co_dict.specs.declared.entry.Entry.{Entry}
 use Rattle.co_dict.specs.Accesses.{is_writable}
 use Rattle.co_dict.specs.Pdos.{is_mappable}
-use Rattle.eds_device.specs.Entries.{entry_at, dummy_allowed}
+use Rattle.eds_device.specs.Entries.{entry_at, defaults_of, dummy_allowed, shape_of}
+use Rattle.pdo_stations.specs.declared.as_made.AsMade.{AsMade}
 use Rattle.cia301.specs.PdoObjects.{mapping_object}
 
--- the entry that a node has at an index and sub-index, and whether it allows the dummy of a type
+-- a device as its vendor made it: its entries at a node, and what they have by default
+abbrev pub as_made : List Section → ℕ → AsMade
+as_made ss node = record { shape = shape_of ss node; defaults = defaults_of ss node }
+
+-- the entry that a node has at an index and sub-index, and whether it allows the dummy of a type; in version 3 each
+-- device as its vendor made it
 pub record Devices : Type 0 where
   pub entry : ℕ → ℕ × ℕ → Option Entry
   pub dummy : ℕ → ℕ → Bool
+  pub vendor : Option (ℕ → Option AsMade)
 
--- the devices of nodes, each the sections of its EDS; a node that isn't there has no entry
-abbrev pub devices_of : List (ℕ × List Section) → Devices
-devices_of nodes = record {
-  entry = λ node place. option_and_then (λ ss. entry_at ss node place.0 place.1) (lookup (λ n. n == node) nodes);
-  dummy = λ node kind. option_map_or (λ ss. dummy_allowed ss kind) (lookup (λ n. n == node) nodes) false;
+-- the sections of a node's EDS
+abbrev pub sections_at : List (ℕ × List Section) → ℕ → Option (List Section)
+sections_at nodes node = lookup (λ n. n == node) nodes
+
+-- the devices of nodes, each the sections of its EDS, by the rules of version 3 or not; a node that isn't there has no
+-- entry
+abbrev pub devices_of : Bool → List (ℕ × List Section) → Devices
+devices_of is_three nodes = record {
+  entry = λ node place. option_and_then (λ ss. entry_at ss node place.0 place.1) (sections_at nodes node);
+  dummy = λ node kind. option_map_or (λ ss. dummy_allowed ss kind) (sections_at nodes node) false;
+  vendor = if is_three then Some (λ node. option_map (λ ss. as_made ss node) (sections_at nodes node)) else None;
 }
 
 -- a type is UNSIGNEDn of this width

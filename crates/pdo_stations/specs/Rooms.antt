@@ -10,6 +10,7 @@ abbrev pub device_with : Shaped → Devices
 device_with shape = record {
   entry = λ node place. get shape.entries place;
   dummy = λ node kind. is_dummy_allowed shape kind;
+  vendor = None;
 }
 
 -- a PDO that has room for so many entries has room for fewer; None is a PDO that can't be used

@@ -3,7 +3,7 @@ ghost use Rattle.std.specs.Prelude.{◌≡◌};
 ghost use Rattle.pdo_stations.specs.Dummies.{dummy_type};
 
 /// The data type of the dummy of so many bits (CiA 301): BOOLEAN and UNSIGNED8, 16 and 32 have one.
-pub(crate) fn dummy_type(bits: u8) -> Option<u16>
+pub fn dummy_type(bits: u8) -> Option<u16>
     ensures { result ≡ dummy_type bits }
 {
     match bits {

@@ -3,22 +3,28 @@
 //! of them; of one node which of its RPDOs are spare.
 #![tactic(auto)]
 
+mod as_made;
 mod carried;
 mod consumed;
 mod dummy;
+mod makes;
 mod mappable;
 mod mapped;
 mod room;
+mod seats;
 mod sender;
 mod station;
 mod stations;
 mod taken_rpdos;
 
+pub use as_made::AsMade;
 pub use carried::{Carried, bits_in, carried_at, carried_sources, sent_mapping, total_bits};
 pub use consumed::{lacks_dummy, taken_mapping};
+pub use dummy::dummy_type;
 pub use mappable::Mappable;
 pub use mapped::Mapped;
-pub use room::is_unsigned;
+pub use room::{is_unsigned, takes_unsigned};
+pub use seats::Seats;
 pub use sender::has_tpdo;
 pub use station::Station;
 pub use stations::Stations;

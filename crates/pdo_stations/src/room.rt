@@ -24,7 +24,7 @@ pub fn is_unsigned(kind: DataType, width: Width) -> bool
 }
 
 /// Whether an entry is an UNSIGNEDn of a width that can be written.
-pub(crate) fn takes_unsigned(width: Width, entry: &Entry) -> bool
+pub fn takes_unsigned(width: Width, entry: &Entry) -> bool
     ensures { result ≡ takes_unsigned width entry.now }
 {
     is_unsigned(entry.kind, width) && entry.access.is_writable()

@@ -1,121 +1,37 @@
 //! All nodes as the plan of messages sees them.
-ghost use Rattle.std.specs.Prelude.{◌≡◌, ◌==◌, ◌≤◌, ℕ, [], length, slice_index_or, if◌then◌else◌, None, Some, IfOk, OnOk};
+ghost use Rattle.std.specs.Prelude.{◌≡◌, ◌==◌, ◌≤◌, is_some, option_and_then, IfOk};
 ghost use Rattle.std.specs.Option.{option_copied};
 ghost use Rattle.co_values.specs.Types.{width_bits};
-ghost use Rattle.eds_device.specs.Entries.{shape_of};
 ghost use Rattle.pdo_stations.specs.Devices.{devices_of, can_map, has_pdo, has_start, has_times, width_at};
 ghost use Rattle.cia301.specs.PdoObjects.{tpdo_object};
 ghost use Rattle.pdo_stations.specs.Dummies.{dummy_for};
 ghost use Rattle.pdo_stations.specs.Shown.{nodes_of};
-ghost use Rattle.pdo_stations.specs.Stations.{shape_at, devices_in, seats_by_number};
+ghost use Rattle.pdo_stations.specs.Seats.{shape_at};
+ghost use Rattle.pdo_stations.specs.Stations.{devices_in};
 
+use crate::as_made::AsMade;
 use crate::dummy::dummy_type;
+use crate::makes::{made_at, makes_of};
 use crate::mappable::Mappable;
 use crate::mapped::Mapped;
+use crate::seats::Seats;
 use crate::station::Station;
-use co_dict::{Direction, Entry, Shape};
+use co_dict::{Direction, Entry};
 use co_values::width_bits;
 use eds_device::DataSheet;
 use std::alloc::{AllocError, Global};
-use std::marker::Model;
 
-/// How many numbers a node can have, with those that none has.
-const NUMBERS: usize = 256;
-
-/// All nodes as the plan of messages sees them. Contracts see the entries and dummies of each, by the
-/// nodes' numbers.
+/// All nodes as the plan of messages sees them: the entries and dummies of each, by the nodes' numbers; in
+/// version 3 each device as its vendor made it besides.
 ///
 /// A call takes time by the logarithm of the number of entries, and by the mapping entries that it
 /// counts.
 #[derive(Drop)]
 pub struct Stations {
-    seats: Vec<Option<Station>>,
-}
-
-impl Model for Stations {
-    ghost use Rattle.std.specs.Prelude.{ℕ, List};
-    ghost use Rattle.std.specs.Coded.{coded_ℕ, coded_list, coded×};
-    ghost use Rattle.co_dict.specs.contracts.entry.Entry as described;
-    ghost use Rattle.co_dict.specs.Shapes.{Shaped, shaped_code};
-    ghost use Rattle.pdo_stations.specs.Stations.{seats_by_number};
-
-    ghost Value = { List (ℕ × Shaped) };
-
-    ghost coded = { coded_list (coded× coded_ℕ (shaped_code described.the_row.coded)) };
-
-    ghost view = { λ stations. seats_by_number 0 stations.seats.items };
-}
-
-/// A seat for each number, each without a station.
-fn empty_seats(alloc: Global) -> Result<Vec<Option<Station>>, AllocError>
-    ensures count { IfOk result (λ seats. length seats.items ≡ 256) }
-    ensures empty { IfOk result (λ seats. seats_by_number 0 seats.items ≡ []) }
-{
-    let mut seats = Vec::with_capacity(alloc, NUMBERS)?;
-    for _number in 0..NUMBERS {
-        seats.push(None)?;
-    }
-    Ok(seats)
-}
-
-/// The station at a number.
-fn seated(seats: &[Option<Station>], number: u8) -> Option<&Station>
-    ensures { option_copied result ≡ slice_index_or seats.now number None }
-{
-    let seat = seats.get(usize::from(number))?;
-    seat.as_ref()
-}
-
-/// The station of a shape. That at another number may have the same one.
-fn station_of(
-    alloc: Global,
-    seats: &[Option<Station>],
-    other: u8,
-    shape: Shape,
-) -> Result<Station, AllocError>
-    ensures { IfOk result (λ station. station ≡ shape) }
-{
-    match seated(seats, other) {
-        Some(known) => Station::beside(alloc, known, shape),
-        None => Station::new(alloc, shape),
-    }
-}
-
-/// Looks the device of a node up, and puts it in the place of one that has its number. The node of
-/// another number may have the same device.
-fn add_station(
-    alloc: Global,
-    seats: &mut [Option<Station>],
-    other: u8,
-    number: u8,
-    device: &DataSheet,
-) -> Result<(), AllocError>
-    requires { length seats.now ≡ 256 }
-    ensures count { OnOk result (length seats.new ≡ 256) }
-    ensures station { OnOk result ((node : ℕ) → shape_at (seats_by_number 0 seats.new) node
-        ≡ (if number == node then Some (shape_of device.now.sections number)
-        else shape_at (seats_by_number 0 seats.old) node)) }
-{
-    let shape = device.shared_shape(number)?;
-    let station = station_of(alloc, seats, other, shape)?;
-    seats[usize::from(number)] = Some(station);
-    Ok(())
-}
-
-/// Looks the devices of the nodes up. Of two nodes with one number the first counts.
-fn look_up(alloc: Global, nodes: &[(u8, &DataSheet)]) -> Result<Vec<Option<Station>>, AllocError>
-    ensures { IfOk result (λ seats. devices_in (seats_by_number 0 seats.items) ≡ devices_of (nodes_of nodes.now)) }
-{
-    let mut seats = empty_seats(alloc)?;
-    let mut last = 0;
-    let mut count = nodes.len();
-    'nodes: while count > 0 {
-        count -= 1;
-        let (number, device) = nodes[count];
-        add_station(alloc, seats.as_mut_slice(), last, number, device)?;
-        last = number;
-    }
-    Ok(seats)
+    /// The entries and dummies of each node.
+    pub(crate) seats: Seats,
+    /// In version 3 a seat for each number, with the device of the node.
+    pub(crate) makes: Option<Vec<Option<AsMade>>>,
 }
 
 /// The bits of an entry in a PDO, where it is BOOLEAN or an integer.
@@ -127,20 +43,40 @@ fn entry_width(entry: &Entry) -> Option<u8>
 }
 
 impl Stations {
-    /// Looks the devices of nodes up. Of two nodes with one number the first counts. Takes time by
-    /// the number of the devices' entries and its logarithm.
-    pub fn new(alloc: Global, nodes: &[(u8, &DataSheet)]) -> Result<Stations, AllocError>
-        ensures { IfOk result (λ stations. devices_in stations ≡ devices_of (nodes_of nodes.now)) }
+    /// Looks the devices of nodes up, by the rules of version 3 or not. Of two nodes with one number the
+    /// first counts. Takes time by the number of the devices' entries and its logarithm, and in version 3
+    /// memory by it.
+    pub fn new(
+        alloc: Global,
+        is_three: bool,
+        nodes: &[(u8, &DataSheet)],
+    ) -> Result<Stations, AllocError>
+        ensures { IfOk result (λ stations. devices_in stations ≡ devices_of is_three (nodes_of nodes.now)) }
     {
-        let seats = look_up(alloc, nodes)?;
-        Ok(Stations { seats })
+        let seats = Seats::new(alloc, nodes)?;
+        let makes = makes_of(alloc, is_three, nodes)?;
+        Ok(Stations { seats, makes })
+    }
+
+    /// Whether devices serve as their vendors made them: in version 3.
+    pub fn is_three(&self) -> bool
+        ensures { result ≡ is_some (devices_in self.now).vendor }
+    {
+        self.makes.is_some()
+    }
+
+    /// The device of a node as its vendor made it, in version 3. Takes constant time.
+    pub fn made(&self, node: u8) -> Option<&AsMade>
+        ensures { option_copied result ≡ option_and_then (λ made. made node) (devices_in self.now).vendor }
+    {
+        made_at(self.makes.as_ref()?, node)
     }
 
     /// The node of a number. Takes constant time.
     pub fn get(&self, node: u8) -> Option<&Station>
-        ensures { option_copied result ≡ shape_at self.now node }
+        ensures { option_copied result ≡ shape_at self.now.seats node }
     {
-        seated(&self.seats, node)
+        self.seats.get(node)
     }
 
     /// The entry of a node at an index and sub, if there is one.

@@ -1,12 +1,12 @@
 -- What every edit keeps to (this profile's own).
-use Rattle.std.specs.Prelude.{◌≡◌, ℕ, List, true}
+use Rattle.std.specs.Prelude.{◌≡◌, ℕ, Bool, List, true}
 use Rattle.co_scenario.specs.declared.event.Event.{Event}
 use Rattle.co_scenario.specs.declared.event.Event.TheVariants as event
 use Rattle.project_edits.specs.declared.edit.Edit.{Edit}
 use Rattle.project_edits.specs.declared.edit.Edit.TheVariants as edit
 use Rattle.project_edits.specs.declared.manager_settings.ManagerSettings.{ManagerSettings}
 use Rattle.base.specs.Ranges.{is_between, AreIndices}
-use Rattle.project_messages.specs.Messages.{IsMessage, is_position, is_start}
+use Rattle.project_messages.specs.Messages.{IsMessage, is_position, is_rpdo_or_any, is_start}
 use Rattle.project_edits.specs.Forms.{is_name, is_text, is_node_or_all, is_own_index, is_bit_rate, is_time}
 use Rattle.cia301.specs.Limits.{is_node_number}
 use Rattle.project_edits.specs.Forms.{is_sync_counter, is_sync_period, is_event_number}
@@ -53,5 +53,9 @@ IsEdit (edit.Sink message position node index sub) =
     (is_name message ≡ true) × (is_position position ≡ true) × (is_node_number node ≡ true) × AreIndices index sub
 IsEdit (edit.Unsink message position node) = (is_name message ≡ true) × (is_position position ≡ true)
     × (is_node_number node ≡ true)
+IsEdit (edit.Receive message node rpdo event) =
+    (is_name message ≡ true) × (is_node_number node ≡ true) × (is_rpdo_or_any rpdo ≡ true)
+    × (is_between 0 0xFFFF event ≡ true)
+IsEdit (edit.Unreceive message node) = (is_name message ≡ true) × (is_node_number node ≡ true)
 IsEdit (edit.Event number e) = (is_event_number number ≡ true) × (is_time e.time ≡ true) × IsEvent e.event
 IsEdit (edit.DropEvent number) = is_event_number number ≡ true

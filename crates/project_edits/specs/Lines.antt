@@ -53,6 +53,9 @@ words_of (edit.Unsource message position) = codes "unsource" ∷ message ∷ dec
 words_of (edit.Sink message position node index sub) =
     codes "sink" ∷ message ∷ decimal position ∷ decimal node ∷ index_digits index ∷ byte_digits sub ∷ []
 words_of (edit.Unsink message position node) = codes "unsink" ∷ message ∷ decimal position ∷ decimal node ∷ []
+words_of (edit.Receive message node rpdo event) = codes "receive" ∷ message ∷ decimal node ∷ decimal rpdo ∷ decimal event
+    ∷ []
+words_of (edit.Unreceive message node) = codes "unreceive" ∷ message ∷ decimal node ∷ []
 words_of (edit.Event number e) = codes "event" ∷ decimal number ∷ decimal e.time ∷ event_words e.event
 words_of (edit.DropEvent number) = codes "drop-event" ∷ decimal number ∷ []
 

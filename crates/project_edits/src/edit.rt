@@ -73,8 +73,8 @@ pub enum Edit {
         /// The sub-index of the entry.
         sub: u8,
     },
-    /// A name gets a message (CiA 301, PDOs); a known one keeps its SYNC start value, its sources and its
-    /// sinks.
+    /// A name gets a message (CiA 301, PDOs); a known one keeps its SYNC start value, its sources, its
+    /// sinks and its receives.
     Message {
         /// The name of the message.
         name: Octets,
@@ -88,7 +88,7 @@ pub enum Edit {
         /// The number of the SYNC from which on SYNC messages are counted, 1 to 240; 0 for any.
         start: u8,
     },
-    /// A message goes, and its sources and sinks with it.
+    /// A message goes, and its sources, sinks and receives with it.
     DropMessage {
         /// The name of the message.
         name: Octets,
@@ -130,6 +130,24 @@ pub enum Edit {
         message: Octets,
         /// The position in the message, 1 to 64.
         position: u8,
+        /// The number of the node.
+        node: u8,
+    },
+    /// A node takes a message by one of its RPDOs. Scripts of versions 1 and 2 have no receives.
+    Receive {
+        /// The name of the message.
+        message: Octets,
+        /// The number of the node.
+        node: u8,
+        /// The number of its RPDO, 1 to 512; 0 for the one that the plan gives.
+        rpdo: u16,
+        /// The event time of the RPDO (CiA 301) in milliseconds; 0 for the one that it has.
+        event: u16,
+    },
+    /// It isn't said any more by which RPDO a node takes a message.
+    Unreceive {
+        /// The name of the message.
+        message: Octets,
         /// The number of the node.
         node: u8,
     },

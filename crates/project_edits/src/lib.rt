@@ -19,7 +19,7 @@ pub use edit::Edit;
 pub use event_lines::write_event;
 pub use fault::{EditFault, refusal};
 pub use forms::{has_control, is_name, is_plain};
-pub use link_lines::{write_message, write_sink, write_source, write_start};
+pub use link_lines::{write_message, write_receive, write_sink, write_source, write_start};
 pub use manager_settings::ManagerSettings;
 pub use printing::{
     write_bitrate, write_eds, write_horizon, write_manager, write_need, write_node, write_param,

@@ -3,7 +3,7 @@ ghost use Rattle.std.specs.Prelude.{◌≡◌, true, IfOk};
 ghost use Rattle.base.specs.Gives.{Gives};
 ghost use Rattle.project_edits.specs.Faults.{is_memory};
 ghost use Rattle.base.specs.Ranges.{is_between};
-ghost use Rattle.project_messages.specs.Messages.{is_position, is_start};
+ghost use Rattle.project_messages.specs.Messages.{is_position, is_rpdo_or_any, is_start};
 ghost use Rattle.project_edits.specs.Forms.{number_within, is_node_or_all, is_own_index, is_bit_rate, is_time};
 ghost use Rattle.cia301.specs.Limits.{is_node_number, is_pdo_number};
 ghost use Rattle.project_edits.specs.Forms.{is_sync_counter, is_sync_period, is_identifier};
@@ -22,7 +22,7 @@ const MIN_COUNTER: u64 = 2;
 
 const MAX_COUNTER: u64 = 240;
 
-const MAX_TPDO: u64 = 512;
+const MAX_PDO: u64 = 512;
 
 const MAX_POSITION: u64 = 64;
 
@@ -129,13 +129,14 @@ pub fn sync_start(number: u64) -> Result<u8, EditFault>
     Ok(start as u8)
 }
 
-/// The version of a script, 1 or 2.
+/// The version of a script: 1, 2 or 3.
 pub fn script_version(number: u64) -> Result<ScriptVersion, EditFault>
     ensures { Gives is_memory (λ v. v) result (version_of number) }
 {
     match number {
         1 => Ok(ScriptVersion::One),
         2 => Ok(ScriptVersion::Two),
+        3 => Ok(ScriptVersion::Three),
         _ => Err(EditFault::Range),
     }
 }
@@ -163,7 +164,16 @@ pub fn tpdo_number(number: u64) -> Result<u16, EditFault>
     ensures value { Gives is_memory (λ n. n) result (number_within is_pdo_number number) }
     ensures within { IfOk result (λ n. is_pdo_number n ≡ true) }
 {
-    let number = number_within(number, 1, MAX_TPDO)?;
+    let number = number_within(number, 1, MAX_PDO)?;
+    Ok(number as u16)
+}
+
+/// The number of an RPDO (CiA 301), 1 to 512, or 0 for the one that the plan gives.
+pub fn rpdo_or_any(number: u64) -> Result<u16, EditFault>
+    ensures value { Gives is_memory (λ n. n) result (number_within is_rpdo_or_any number) }
+    ensures within { IfOk result (λ n. is_rpdo_or_any n ≡ true) }
+{
+    let number = number_within(number, 0, MAX_PDO)?;
     Ok(number as u16)
 }
 

@@ -1,4 +1,4 @@
-//! Messages, their sources and their sinks as text, written at the end of an output. Where memory runs
+//! Messages, their sources, their sinks and their receives as text, written at the end of an output. Where memory runs
 //! out, what stood there is the beginning of what stands there then, and a part of the text may follow.
 #![tactic(auto, unfolding(crate::specs::Lines::text_of, crate::specs::Lines::line_of, crate::specs::Lines::words_of))]
 
@@ -10,7 +10,7 @@ ghost use Rattle.project_edits.specs.Lines.{text_of};
 ghost use Rattle.project_edits.specs.declared.edit.Edit.TheVariants as edit;
 
 use crate::written::{write_identifier, write_number, write_place, write_target, write_word};
-use project_messages::Message;
+use project_messages::{Message, Receive};
 use std::alloc::{AllocError, Global};
 
 /// Writes ` ID TPDO TYPE INHIBIT EVENT COB`.
@@ -105,6 +105,37 @@ pub fn write_sink(
     write_word(out, message)?;
     write_number(out, u64::from(position))?;
     write_target(out, node, index, sub)?;
+    out.push(b'\n')?;
+    Ok(())
+}
+
+/// Writes ` ID RPDO MS`.
+fn write_taker(out: &mut Vec<u8>, node: u8, receive: Receive) -> Result<(), AllocError>
+    ensures written { OnOk result (out.new.items ≡ out.old.items ++ byte " " ∷ decimal node
+        ++ byte " " ∷ decimal receive.rpdo ++ byte " " ∷ decimal receive.event) }
+    ensures kept { OnErr result (StartsWith out.new.items out.old.items) }
+{
+    write_number(out, u64::from(node))?;
+    write_number(out, u64::from(receive.rpdo))?;
+    write_number(out, u64::from(receive.event))?;
+    Ok(())
+}
+
+/// Writes `receive MESSAGE ID RPDO MS`.
+pub fn write_receive(
+    out: &mut Vec<u8>,
+    alloc: Global,
+    message: &[u8],
+    node: u8,
+    receive: Receive,
+) -> Result<(), AllocError>
+    ensures written { OnOk result (out.new.items
+        ≡ out.old.items ++ text_of (edit.Receive message.now node receive.rpdo receive.event)) }
+    ensures kept { OnErr result (StartsWith out.new.items out.old.items) }
+{
+    out.extend_from_slice(b"receive")?;
+    write_word(out, message)?;
+    write_taker(out, node, receive)?;
     out.push(b'\n')?;
     Ok(())
 }

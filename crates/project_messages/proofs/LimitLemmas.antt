@@ -15,10 +15,11 @@ use Rattle.base.proofs.EachLemmas.{all_entries, each_empty, each_put, each_remov
 use Rattle.base.proofs.EntryLemmas.{All-left, All-put, strict-left, strict-put}
 use Rattle.project_messages.specs.declared.linked.Linked.{Linked}
 use Rattle.project_messages.specs.declared.message.Message.{Message}
+use Rattle.project_messages.specs.declared.receive.Receive.{Receive}
 use Rattle.project_messages.specs.Messages.{with_changed, is_position, is_start, linked_to, seat_cmp, with_sink, with_source}
-use Rattle.project_messages.specs.Messages.{with_start}
+use Rattle.project_messages.specs.Messages.{with_receive, with_start, without_receive}
 use Rattle.project_messages.specs.Messages.{without_sink, without_source, AreMessages, AreSinks, AreSources, IsLinked}
-use Rattle.project_messages.specs.Messages.{IsMessage, IsSink, Named}
+use Rattle.project_messages.specs.Messages.{AreReceives, IsMessage, IsReceive, IsSink, Named}
 
 -- the order of sinks
 pub seats_exact : CmpEqualImpliesEq seat_cmp
@@ -37,17 +38,21 @@ no_sinks : AreSinks []
 unfolding AreSinks IsStrictlySortedBy
 no_sinks = (tt, All-nil _)
 
--- a message, where a known one keeps its SYNC start value, its sources and its sinks
+no_receives : AreReceives []
+unfolding AreReceives IsStrictlySortedBy
+no_receives = (tt, All-nil _)
+
+-- a message, where a known one keeps its SYNC start value, its sources, its sinks and its receives
 pub linked_message : (known : Option Linked) (message : Message) → IsMessage message → IfSome known IsLinked
     → IsLinked (linked_to known message)
 unfolding IsLinked
-linked_message None message is known = (is, refl, no_sources, no_sinks)
-linked_message (Some l) message is known = (is, known.1, known.2, known.3)
+linked_message None message is known = (is, refl, no_sources, no_sinks, no_receives)
+linked_message (Some l) message is known = (is, known.1, known.2, known.3, known.4)
 
 -- with another SYNC start value
 pub start_put : (l : Linked) (start : ℕ) → IsLinked l → is_start start ≡ true → IsLinked (with_start start l)
 unfolding IsLinked
-start_put l start is fits = (is.0, fits, is.2, is.3)
+start_put l start is fits = (is.0, fits, is.2, is.3, is.4)
 
 -- with one source more, or another in its place
 pub source_put : (l : Linked) (position : ℕ) (place : ℕ × ℕ) → IsLinked l → is_position position ≡ true
@@ -64,6 +69,7 @@ source_put l position place is fits are =
         All-put nat_cmp IsPlace l.sources position place exact_unsigned is.2.2 are,
       ),
       is.3,
+      is.4,
     )
 
 -- with one less
@@ -81,6 +87,7 @@ source_left l position is =
         All-left test IsPlace l.sources is.2.2,
       ),
       is.3,
+      is.4,
     )
 
 -- with one sink more, or another in its place
@@ -95,6 +102,7 @@ sink_put l position node place is fits taker are = (
     strict-put seat_cmp seats_total seats_exact l.sinks (position, node) place is.3.0,
     All-put seat_cmp IsSink l.sinks (position, node) place seats_exact is.3.1 (fits, taker, are),
   ),
+  is.4,
 )
 
 -- with one less
@@ -102,7 +110,34 @@ pub sink_left : (l : Linked) (position node : ℕ) → IsLinked l → IsLinked (
 unfolding IsLinked AreSinks
 sink_left l position node is =
     let test = is_at (seat_cmp (position, node)) in
-    (is.0, is.1, is.2, (strict-left test seat_cmp l.sinks is.3.0, All-left test IsSink l.sinks is.3.1))
+    (is.0, is.1, is.2, (strict-left test seat_cmp l.sinks is.3.0, All-left test IsSink l.sinks is.3.1), is.4)
+
+-- with one receive more, or another in its place
+pub receive_put : (l : Linked) (node : ℕ) (receive : Receive) → IsLinked l → IsReceive (node, receive)
+    → IsLinked (with_receive node receive l)
+unfolding IsLinked AreReceives
+receive_put l node receive is fits = (
+  is.0,
+  is.1,
+  is.2,
+  is.3,
+  (
+    strict-put nat_cmp nat_cmp_total exact_unsigned l.receives node receive is.4.0,
+    All-put nat_cmp IsReceive l.receives node receive exact_unsigned is.4.1 fits,
+  ),
+)
+
+-- with one less
+pub receive_left : (l : Linked) (node : ℕ) → IsLinked l → IsLinked (without_receive node l)
+unfolding IsLinked AreReceives
+receive_left l node is =
+    let test = is_at (nat_cmp node) in (
+      is.0,
+      is.1,
+      is.2,
+      is.3,
+      (strict-left test nat_cmp l.receives is.4.0, All-left test IsReceive l.receives is.4.1),
+    )
 
 -- ---- all messages
 

@@ -9,7 +9,8 @@ use Rattle.std.proofs.lemmas.Map.Lookups.{exact_bytes}
 use Rattle.base.proofs.TableLemmas.{put_again}
 use Rattle.project_messages.specs.declared.linked.Linked.{Linked}
 use Rattle.project_messages.specs.declared.message.Message.{Message}
-use Rattle.project_messages.specs.Messages.{with_changed, has_sink, has_source, linked_to, name_cmp, sink_at, source_at}
+use Rattle.project_messages.specs.Messages.{with_changed, has_receive, has_sink, has_source, linked_to, name_cmp}
+use Rattle.project_messages.specs.Messages.{receive_at, sink_at, source_at}
 use Rattle.project_messages.specs.Messages.{with_message, AreMessages, IsLinked, IsMessage, Named}
 use Rattle.project_messages.proofs.LimitLemmas.{linked_message, limits_at, messages_changed, messages_put}
 use Rattle.project_messages.proofs.NameLemmas.{key_cmp, made, value_changed, value_found, value_in, value_put}
@@ -100,3 +101,9 @@ module _ (messages : Named) (name : List ℕ) (l : Linked) (found : get messages
   pub no_sink : (node : ℕ) → sink_at l.sinks position node ≡ None → has_sink messages name position node ≡ false
   no_sink node none = ap (λ o. is_some (option_and_then (λ (m : Linked). sink_at m.sinks position node) o)) found
       ∙ ap is_some none
+
+-- no receive of a node
+pub no_receive : (messages : Named) (name : List ℕ) (l : Linked) → get messages name ≡ Some l → (node : ℕ)
+    → receive_at l.receives node ≡ None → has_receive messages name node ≡ false
+no_receive messages name l found node none =
+    ap (λ o. is_some (option_and_then (λ (m : Linked). receive_at m.receives node) o)) found ∙ ap is_some none

@@ -21,9 +21,9 @@ fn same_entries(a: &Messages, b: &Messages) -> bool
 }
 
 impl Messages {
-    /// Whether the others are the same by the same names, with the same sources and sinks. Takes time
-    /// by the length of the names and the number of sources and sinks up to the first difference, and
-    /// no memory.
+    /// Whether the others are the same by the same names, with the same sources, sinks and receives. Takes
+    /// time by the length of the names and the number of sources, sinks and receives up to the first
+    /// difference, and no memory.
     pub fn same(&self, other: &Messages) -> bool
         ensures { IsTrue result ↔ (self.now ≡ other.now) }
     {

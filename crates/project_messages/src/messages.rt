@@ -5,11 +5,13 @@ ghost use Rattle.std.specs.Option.{option_copied};
 ghost use Rattle.base.specs.Ranges.{is_between, AreIndices};
 ghost use Rattle.project_messages.specs.Messages.{by_name, with_changed, is_of_messages, has_sink, has_source, is_full_for};
 ghost use Rattle.project_messages.specs.Messages.{is_position, is_start, message_at, with_message, with_sink, with_source};
-ghost use Rattle.project_messages.specs.Messages.{with_start};
-ghost use Rattle.project_messages.specs.Messages.{without_sink, without_source, IsLinked, IsMessage};
+ghost use Rattle.project_messages.specs.Messages.{has_receive, have_receives, are_received, with_receive, with_start};
+ghost use Rattle.project_messages.specs.Messages.{without_receive, without_sink, without_source, IsLinked, IsMessage, IsReceive};
 
 use crate::linked::Linked;
 use crate::message::Message;
+use crate::receive::Receive;
+use crate::receives::Receives;
 use crate::sinks::Sinks;
 use crate::sources::Sources;
 use base::Octets;
@@ -20,9 +22,10 @@ use std::marker::Model;
 
 const MAX_MESSAGES: usize = 1024;
 
-/// The messages of a project by name, each with its sources and sinks.
+/// The messages of a project by name, each with its sources, its sinks and its receives.
 ///
-/// A call takes time by the logarithm of the number of messages and of the sources or sinks of one.
+/// A call takes time by the logarithm of the number of messages and of the sources, sinks or receives of
+/// one.
 #[derive(Drop)]
 pub struct Messages {
     linked: BTreeMap<Vec<u8>, Linked>,
@@ -53,7 +56,7 @@ impl Messages {
         }
     }
 
-    /// Equal messages. Takes time and memory by their number and that of their sources and sinks.
+    /// Equal messages. Takes time and memory by their number and that of their sources, sinks and receives.
     pub fn copy(&self) -> Result<Messages, AllocError>
         ensures { IfOk result (λ messages. messages ≡ self.now) }
     {
@@ -117,6 +120,40 @@ impl Messages {
         }
     }
 
+    /// Whether the message of a name has a receive of a node.
+    pub fn has_receive(&self, name: &[u8], node: u8) -> bool
+        ensures { result ≡ has_receive self.now name.now node }
+    {
+        match self.get(name) {
+            Some(linked) => linked.receives.get(node).is_some(),
+            None => false,
+        }
+    }
+
+    /// Whether a message has a receive. Takes time by the number of messages.
+    pub fn have_receives(&self) -> bool
+        ensures { result ≡ have_receives self.now }
+    {
+        for (_name, linked) in self.iter() {
+            if linked.has_receives() {
+                return true;
+            }
+        }
+        false
+    }
+
+    /// Whether a message has a receive of a node. Takes time by the number of messages and receives.
+    pub fn are_received(&self, node: u8) -> bool
+        ensures { result ≡ are_received node self.now }
+    {
+        for (_name, linked) in self.iter() {
+            if linked.is_received(node) {
+                return true;
+            }
+        }
+        false
+    }
+
     /// Whether a node sends a message or takes a part of one. Takes time by the number of messages
     /// and sinks.
     pub fn concern(&self, node: u8) -> bool
@@ -138,9 +175,9 @@ impl Messages {
         self.linked.iter()
     }
 
-    /// Gives a name a message. A known one keeps its SYNC start value, its sources and its sinks; a new one
-    /// has the start value 0 and neither sources nor sinks. Want of memory changes nothing, and can come at
-    /// a new one alone.
+    /// Gives a name a message. A known one keeps its SYNC start value, its sources, its sinks and its
+    /// receives; a new one has the start value 0 and none of these. Want of memory changes nothing, and can
+    /// come at a new one alone.
     pub fn put(&mut self, alloc: Global, name: Octets, message: Message) -> Result<(), AllocError>
         requires { IsMessage message }
         ensures ok { OnOk result (self.new ≡ with_message self.old name message) }
@@ -156,12 +193,13 @@ impl Messages {
             start: 0,
             sources: Sources::new(alloc),
             sinks: Sinks::new(alloc),
+            receives: Receives::new(alloc),
         };
         self.linked.insert(name.into_vec(), linked)?;
         Ok(())
     }
 
-    /// Takes the message of a name away, if it has one, and its sources and sinks with it.
+    /// Takes the message of a name away, if it has one, and its sources, sinks and receives with it.
     pub fn remove(&mut self, name: &[u8])
         ensures { self.new ≡ map.remove self.old name.now }
     {
@@ -293,5 +331,39 @@ impl Messages {
             return;
         };
         linked.sinks.remove(position, node);
+    }
+
+    /// Gives the message of a name, if it has one, a receive of a node, in place of the one that the node
+    /// has, and says whether the name has a message. Want of memory changes nothing, and can come only
+    /// where the node has none.
+    pub fn link_receive(
+        &mut self,
+        name: &[u8],
+        node: u8,
+        receive: Receive,
+    ) -> Result<bool, AllocError>
+        requires { IsReceive (node, receive) }
+        ensures known { IfOk result (λ known. known ≡ map.contains_key self.old name.now) }
+        ensures unknown { result ≡ Ok false → self.new ≡ self.old }
+        ensures ok { OnOk result (self.new ≡ with_changed (with_receive node receive) self.old name.now) }
+        ensures err { OnErr result (self.new ≡ self.old) }
+        ensures there { OnErr result (map.contains_key self.old name.now ≡ true) }
+        ensures absent { OnErr result (has_receive self.old name.now node ≡ false) }
+    {
+        let Some(linked) = self.linked.get_mut(name) else {
+            return Ok(false);
+        };
+        linked.receives.put(node, receive)?;
+        Ok(true)
+    }
+
+    /// Takes the receive of a node of the message of a name away, if it is there.
+    pub fn remove_receive(&mut self, name: &[u8], node: u8)
+        ensures { self.new ≡ with_changed (without_receive node) self.old name.now }
+    {
+        let Some(linked) = self.linked.get_mut(name) else {
+            return;
+        };
+        linked.receives.remove(node);
     }
 }

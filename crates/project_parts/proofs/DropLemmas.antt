@@ -78,6 +78,8 @@ module _ (p : Project) where
   has_all (edit.Unsource name position) kept = as_it_was _ refl refl
   has_all (edit.Sink name position node index sub) kept = as_it_was _ refl refl
   has_all (edit.Unsink name position node) kept = as_it_was _ refl refl
+  has_all (edit.Receive name node rpdo event) kept = as_it_was _ refl refl
+  has_all (edit.Unreceive name node) kept = as_it_was _ refl refl
   has_all (edit.Event number e) kept = as_it_was _ refl refl
   has_all (edit.DropEvent number) kept = as_it_was _ refl refl
 

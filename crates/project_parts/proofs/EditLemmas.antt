@@ -8,12 +8,13 @@ use Rattle.project_edits.specs.declared.edit.Edit.TheVariants as edit
 use Rattle.project_edits.specs.declared.fault.EditFault.{EditFault}
 use Rattle.project_edits.specs.declared.fault.EditFault.TheVariants.{InUse, Limit, Range, Taken, Unknown}
 use Rattle.project_edits.specs.Accepts.{unless}
-use Rattle.project_edits.specs.Versions.{is_one}
+use Rattle.project_edits.specs.Versions.{is_one, is_three}
 use Rattle.project_messages.specs.Messages.{is_full_for as has_full_messages, is_of_messages, with_changed}
 use Rattle.project_messages.specs.Messages.{with_message, with_sink, with_source, with_start, without_sink, without_source}
+use Rattle.project_messages.specs.Messages.{are_received, has_receive, with_receive, without_receive}
 use Rattle.node_parameters.specs.Params.{is_full_for, Texts as Params}
 use Rattle.co_project.specs.declared.node.Node.{Node}
-use Rattle.co_project.specs.Project.{accept, with_nodes, Content as Project}
+use Rattle.co_project.specs.Project.{accept, receive_by, with_nodes, Content as Project}
 use Rattle.co_project.specs.Tables.{is_named, is_used, name_taken, put_need, put_node, with_param, without_param, Nodes}
 
 -- the nodes, where that of a number, if it is there, is another one
@@ -56,6 +57,10 @@ made p (edit.Sink name position node index sub) =
     record p { messages = with_changed (with_sink position node (index, sub)) p.messages name }
 made p (edit.Unsink name position node) =
     record p { messages = with_changed (without_sink position node) p.messages name }
+made p (edit.Receive name node rpdo event) =
+    record p { messages = with_changed (with_receive node (receive_by rpdo event)) p.messages name }
+made p (edit.Unreceive name node) =
+    record p { messages = with_changed (without_receive node) p.messages name }
 made p (edit.Event number e) = record p { events = insert p.events number e }
 made p (edit.DropEvent number) = record p { events = remove p.events number }
 
@@ -107,7 +112,8 @@ module _ (p new : Project) where
   taken_as (edit.Need id mandatory) h =
       two_tests (is_one p.version) (not (contains_key p.nodes id)) Range Unknown (made p (edit.Need id mandatory)) new h
   taken_as (edit.DropNode id) h =
-      two_tests (not (contains_key p.nodes id)) (is_of_messages id p.messages || is_named p.events id) Unknown InUse
+      two_tests (not (contains_key p.nodes id))
+      (is_of_messages id p.messages || are_received id p.messages || is_named p.events id) Unknown InUse
       (made p (edit.DropNode id)) new h
   taken_as (edit.Param id index sub text) h = put_param_taken id (index, sub) text (get p.nodes id) h
   taken_as (edit.Unparam id index sub) h = drop_param_taken id (index, sub) (get p.nodes id) h
@@ -122,5 +128,11 @@ module _ (p new : Project) where
   taken_as (edit.Sink name position node index sub) h =
       one_test _ _ (made p (edit.Sink name position node index sub)) new h
   taken_as (edit.Unsink name position node) h = one_test _ _ (made p (edit.Unsink name position node)) new h
+  taken_as (edit.Receive name node rpdo event) h =
+      two_tests (not (is_three p.version)) (not (contains_key p.messages name) || not (contains_key p.nodes node)) Range Unknown
+      (made p (edit.Receive name node rpdo event)) new h
+  taken_as (edit.Unreceive name node) h =
+      two_tests (not (is_three p.version)) (not (has_receive p.messages name node)) Range Unknown
+      (made p (edit.Unreceive name node)) new h
   taken_as (edit.Event number e) h = one_test _ _ (made p (edit.Event number e)) new h
   taken_as (edit.DropEvent number) h = one_test _ _ (made p (edit.DropEvent number)) new h

@@ -1,5 +1,5 @@
 -- What edits leave of what the files are made of.
-use Rattle.std.proofs.Common.{◌≡◌, ℕ, Bool, true, false, cond, ◌==◌, List, [], ◌∷◌, map, filter_map, Option}
+use Rattle.std.proofs.Common.{◌≡◌, ℕ, Bool, true, false, cond, ◌==◌, ◌||◌, List, [], ◌∷◌, map, filter_map, Option}
 use Rattle.std.proofs.Common.{Some, None, option_map, option_and_then, refl, sym, ap, ◌∙◌}
 use Rattle.std.specs.FinMap.{entries, get, get-insert, get-remove, insert, remove}
 use Rattle.std.specs.Ordering.{eq_by_cmp, nat_cmp}
@@ -10,6 +10,8 @@ use Rattle.base.proofs.TableLemmas.{alike}
 use Rattle.ini_text.specs.Content.{Content as DataSheet}
 use Rattle.project_edits.specs.declared.edit.Edit.{Edit}
 use Rattle.project_edits.specs.declared.edit.Edit.TheVariants as edit
+use Rattle.project_edits.specs.declared.script_version.ScriptVersion.{ScriptVersion}
+use Rattle.project_edits.specs.Versions.{is_three}
 use Rattle.project_messages.specs.Messages.{name_cmp, Named}
 use Rattle.node_parameters.specs.Params.{Texts as Params}
 use Rattle.co_project.specs.declared.node.Node.{Node}
@@ -20,7 +22,7 @@ use Rattle.project_parts.specs.Given.{dcf_of_node, inputs_of, plan_from, writes_
 use Rattle.project_plan.specs.Network.{device_at}
 use Rattle.project_parts.specs.Reached.{of_node, of_nodes}
 use Rattle.project_parts.specs.Given.{OfConcise, OfDcf, OfDevice, OfPlan, OfWrites}
-use Rattle.project_parts.specs.Touched.{goes_into, is_of_network, is_of_node, is_of_text, is_planned, says_rate, is_touched}
+use Rattle.project_parts.specs.Touched.{goes_into, is_of_network, is_of_node, is_of_text, is_planned, is_roster, says_rate, is_touched}
 use Rattle.project_parts.specs.Touch.{touch_of}
 use Rattle.project_parts.specs.declared.dcf_from.DcfFrom.{DcfFrom}
 use Rattle.project_parts.specs.declared.plan_from.PlanFrom.{PlanFrom}
@@ -40,11 +42,11 @@ is_filed others = true
 
 -- ---- what of a project these are made from
 
--- the bit rate, texts, nodes and messages alone
-abbrev core : ℕ → Texts → Nodes → Named → Project
-core rate t n m = record first { bitrate = rate; texts = t; nodes = n; messages = m }
+-- the version, the bit rate, texts, nodes and messages alone
+abbrev core : ScriptVersion → ℕ → Texts → Nodes → Named → Project
+core v rate t n m = record first { version = v; bitrate = rate; texts = t; nodes = n; messages = m }
 
-in_core : (p : Project) (q : Part) → is_filed q ≡ true → inputs_of p q ≡ inputs_of (core p.bitrate p.texts p.nodes p.messages) q
+in_core : (p : Project) (q : Part) → is_filed q ≡ true → inputs_of p q ≡ inputs_of (core p.version p.bitrate p.texts p.nodes p.messages) q
 in_core p (part.Device e) file = refl
 in_core p part.Plan file = refl
 in_core p (part.Writes n) file = refl
@@ -53,35 +55,37 @@ in_core p (part.Dcf n) file = refl
 in_core p others file = cc
 
 -- what no bit rate changes
-any_rate : (rate other : ℕ) (t : Texts) (n : Nodes) (m : Named) (q : Part) → says_rate q ≡ false
-    → is_filed q ≡ true → inputs_of (core rate t n m) q ≡ inputs_of (core other t n m) q
-any_rate rate other t n m (part.Device e) h file = refl
-any_rate rate other t n m part.Plan h file = refl
-any_rate rate other t n m (part.Writes k) h file = refl
-any_rate rate other t n m (part.Concise k) h file = refl
-any_rate rate other t n m (part.Dcf k) h file = cc
-any_rate rate other t n m others h file = cc
+any_rate : (v : ScriptVersion) (rate other : ℕ) (t : Texts) (n : Nodes) (m : Named) (q : Part) → says_rate q ≡ false
+    → is_filed q ≡ true → inputs_of (core v rate t n m) q ≡ inputs_of (core v other t n m) q
+any_rate v rate other t n m (part.Device e) h file = refl
+any_rate v rate other t n m part.Plan h file = refl
+any_rate v rate other t n m (part.Writes k) h file = refl
+any_rate v rate other t n m (part.Concise k) h file = refl
+any_rate v rate other t n m (part.Dcf k) h file = cc
+any_rate v rate other t n m others h file = cc
 
 module _ (p new : Project) where
-  same_core : new.texts ≡ p.texts → new.nodes ≡ p.nodes → new.messages ≡ p.messages → (q : Part)
-      → inputs_of (core new.bitrate new.texts new.nodes new.messages) q
-      ≡ inputs_of (core new.bitrate p.texts p.nodes p.messages) q
-  same_core t n m q =
-      ap (λ (x : Texts). inputs_of (core new.bitrate x new.nodes new.messages) q) t
-      ∙ ap (λ (x : Nodes). inputs_of (core new.bitrate p.texts x new.messages) q) n
-      ∙ ap (λ (x : Named). inputs_of (core new.bitrate p.texts p.nodes x) q) m
+  same_core : new.version ≡ p.version → new.texts ≡ p.texts → new.nodes ≡ p.nodes → new.messages ≡ p.messages → (q : Part)
+      → inputs_of (core new.version new.bitrate new.texts new.nodes new.messages) q
+      ≡ inputs_of (core p.version new.bitrate p.texts p.nodes p.messages) q
+  same_core v t n m q =
+      ap (λ (x : ScriptVersion). inputs_of (core x new.bitrate new.texts new.nodes new.messages) q) v
+      ∙ ap (λ (x : Texts). inputs_of (core p.version new.bitrate x new.nodes new.messages) q) t
+      ∙ ap (λ (x : Nodes). inputs_of (core p.version new.bitrate p.texts x new.messages) q) n
+      ∙ ap (λ (x : Named). inputs_of (core p.version new.bitrate p.texts p.nodes x) q) m
 
-  pub settings_left : new.bitrate ≡ p.bitrate → new.texts ≡ p.texts → new.nodes ≡ p.nodes
+  pub settings_left : new.version ≡ p.version → new.bitrate ≡ p.bitrate → new.texts ≡ p.texts → new.nodes ≡ p.nodes
       → new.messages ≡ p.messages → (q : Part) → is_filed q ≡ true → inputs_of new q ≡ inputs_of p q
-  settings_left r t n m q file =
-      in_core new q file ∙ same_core t n m q ∙ ap (λ (x : ℕ). inputs_of (core x p.texts p.nodes p.messages) q) r
+  settings_left v r t n m q file =
+      in_core new q file ∙ same_core v t n m q
+      ∙ ap (λ (x : ℕ). inputs_of (core p.version x p.texts p.nodes p.messages) q) r
       ∙ sym (in_core p q file)
 
   -- what doesn't say the bit rate, where that is another
-  pub rate_left : new.texts ≡ p.texts → new.nodes ≡ p.nodes → new.messages ≡ p.messages → (q : Part)
+  pub rate_left : new.version ≡ p.version → new.texts ≡ p.texts → new.nodes ≡ p.nodes → new.messages ≡ p.messages → (q : Part)
       → says_rate q ≡ false → is_filed q ≡ true → inputs_of new q ≡ inputs_of p q
-  rate_left t n m q h file =
-      in_core new q file ∙ same_core t n m q ∙ any_rate new.bitrate p.bitrate p.texts p.nodes p.messages q h file
+  rate_left v t n m q h file =
+      in_core new q file ∙ same_core v t n m q ∙ any_rate p.version new.bitrate p.bitrate p.texts p.nodes p.messages q h file
       ∙ sym (in_core p q file)
 
   -- devices, where the texts are the same
@@ -116,7 +120,7 @@ module _ (p : Project) (id : ℕ) (node other : Node) (there : get p.nodes id �
   by_eds e = option_map (λ d. (e.0, d)) (device_at p e.1)
 
   abbrev plan_with : List (ℕ × DataSheet) → PlanFrom
-  plan_with ds = record { devices = ds; messages = p.messages }
+  plan_with ds = record { is_three = is_three p.version; devices = ds; messages = p.messages }
 
   same_plan : plan_from changed ≡ plan_from p
   same_plan =
@@ -149,7 +153,13 @@ module _ (p : Project) (id : ℕ) (node other : Node) (there : get p.nodes id �
   -- what the writes of a node are built from, with its node
   abbrev writes_with : ℕ → PlanFrom → Node → Option WritesFrom
   writes_with n f node =
-      option_map (λ d. record { plan = plan_made f; params = node.params; device = d; node = n })
+      option_map (λ d. record {
+        is_three = is_three p.version;
+        plan = plan_made f;
+        params = node.params;
+        device = d;
+        node = n;
+      })
       (device_at p node.eds)
 
   abbrev writes_by : ℕ → PlanFrom → Option WritesFrom
@@ -220,6 +230,10 @@ not_planned id (part.Concise n) file h = cc
 not_planned id (part.Dcf n) file h = cc
 not_planned id others file h = cc
 
+second_not : (s t : Bool) → (s || t) ≡ false → t ≡ false
+second_not true t h = cc
+second_not false t h = h
+
 module _ (p : Project) (q : Part) (file : is_filed q ≡ true) where
   params_as : (id : ℕ) (change : Params → Params) (o : Option Node) → get p.nodes id ≡ o → is_of_node id q ≡ false
       → inputs_of (record p { nodes = with_params p.nodes id change o }) q ≡ inputs_of p q
@@ -232,18 +246,19 @@ module _ (p : Project) (q : Part) (file : is_filed q ≡ true) where
   need_as id mandatory None none = refl
   need_as id mandatory (Some node) there = need_left p id node mandatory there q file
 
-  -- neither bit rate, texts, nodes nor messages
-  nothing_left : (new : Project) → new.bitrate ≡ p.bitrate → new.texts ≡ p.texts → new.nodes ≡ p.nodes
+  -- neither version, bit rate, texts, nodes nor messages
+  nothing_left : (new : Project) → new.version ≡ p.version → new.bitrate ≡ p.bitrate → new.texts ≡ p.texts → new.nodes ≡ p.nodes
       → new.messages ≡ p.messages → inputs_of new q ≡ inputs_of p q
-  nothing_left new r t n m = settings_left p new r t n m q file
+  nothing_left new v r t n m = settings_left p new v r t n m q file
 
   -- an edit leaves what it doesn't touch as it was
   pub file_left : (e : Edit) → goes_into p.events (touch_of e) q ≡ false → inputs_of (made p e) q ≡ inputs_of p q
-  file_left (edit.Version version) h = nothing_left (made p (edit.Version version)) refl refl refl refl
-  file_left (edit.Bitrate rate) h = rate_left p (made p (edit.Bitrate rate)) refl refl refl q h file
-  file_left (edit.Horizon time) h = nothing_left (made p (edit.Horizon time)) refl refl refl refl
-  file_left (edit.Manager m) h = nothing_left (made p (edit.Manager m)) refl refl refl refl
-  file_left (edit.SyncCounter n) h = nothing_left (made p (edit.SyncCounter n)) refl refl refl refl
+  file_left (edit.Version version) h =
+      devices_left p (made p (edit.Version version)) refl q (second_not (is_roster q) (is_planned q) h) file
+  file_left (edit.Bitrate rate) h = rate_left p (made p (edit.Bitrate rate)) refl refl refl refl q h file
+  file_left (edit.Horizon time) h = nothing_left (made p (edit.Horizon time)) refl refl refl refl refl
+  file_left (edit.Manager m) h = nothing_left (made p (edit.Manager m)) refl refl refl refl refl
+  file_left (edit.SyncCounter n) h = nothing_left (made p (edit.SyncCounter n)) refl refl refl refl refl
   file_left (edit.Eds name text) h =
       texts_left p (made p (edit.Eds name text)) name (Some text)
       (λ e. get-insert nat_list_cmp_total p.texts name text e) q h file
@@ -264,8 +279,11 @@ module _ (p : Project) (q : Part) (file : is_filed q ≡ true) where
   file_left (edit.Sink name position node index sub) h =
       devices_left p (made p (edit.Sink name position node index sub)) refl q h file
   file_left (edit.Unsink name position node) h = devices_left p (made p (edit.Unsink name position node)) refl q h file
-  file_left (edit.Event number e) h = nothing_left (made p (edit.Event number e)) refl refl refl refl
-  file_left (edit.DropEvent number) h = nothing_left (made p (edit.DropEvent number)) refl refl refl refl
+  file_left (edit.Receive name node rpdo event) h =
+      devices_left p (made p (edit.Receive name node rpdo event)) refl q h file
+  file_left (edit.Unreceive name node) h = devices_left p (made p (edit.Unreceive name node)) refl q h file
+  file_left (edit.Event number e) h = nothing_left (made p (edit.Event number e)) refl refl refl refl refl
+  file_left (edit.DropEvent number) h = nothing_left (made p (edit.DropEvent number)) refl refl refl refl refl
 
 -- ---- the devices of the nodes
 
@@ -319,5 +337,7 @@ module _ (p : Project) where
   nodes_left (edit.Unsource name position) h = cc
   nodes_left (edit.Sink name position node index sub) h = cc
   nodes_left (edit.Unsink name position node) h = cc
+  nodes_left (edit.Receive name node rpdo event) h = cc
+  nodes_left (edit.Unreceive name node) h = cc
   nodes_left (edit.Event number e) h = refl
   nodes_left (edit.DropEvent number) h = refl

@@ -20,7 +20,7 @@ use Rattle.co_project.specs.Tables.{node_after_put, with_need, Nodes}
 use Rattle.co_scenario.specs.declared.timed_event.TimedEvent.{TimedEvent}
 use Rattle.co_scenario.specs.declared.timed_step.TimedStep.{TimedStep}
 use Rattle.project_parts.proofs.EntriesAlike.{entries_alike, shown}
-use Rattle.network_image.specs.Image.{mandatory_of, roster_of_project, start_mode_of, window_steps}
+use Rattle.network_image.specs.Image.{mandatory_of, roster_of_project, slot_rule, start_mode_of, window_steps}
 use Rattle.network_image.specs.Steps.{steps_in}
 use Rattle.project_plan.specs.Events.{shape_of_node, Shapes}
 use Rattle.project_parts.specs.Given.{device_from, device_of_node, inputs_of, roster_from}
@@ -91,6 +91,7 @@ module _ (p : Project) where
   roster_with mandatory numbers = record {
     roster = record {
       bit_rate = p.bitrate;
+      slots = slot_rule p.version;
       manager = p.manager.id;
       sync_us = p.manager.sync_us;
       sync_counter = p.sync_counter;
@@ -131,6 +132,8 @@ module _ (p : Project) where
   roster_left (edit.Unsource name position) h = refl
   roster_left (edit.Sink name position node index sub) h = refl
   roster_left (edit.Unsink name position node) h = refl
+  roster_left (edit.Receive name node rpdo event) h = refl
+  roster_left (edit.Unreceive name node) h = refl
   roster_left (edit.Event number e) h = refl
   roster_left (edit.DropEvent number) h = refl
 
@@ -186,6 +189,8 @@ module _ (p : Project) where
   device_left (edit.Unsource name position) n h = refl
   device_left (edit.Sink name position node index sub) n h = refl
   device_left (edit.Unsink name position node) n h = refl
+  device_left (edit.Receive name node rpdo event) n h = refl
+  device_left (edit.Unreceive name node) n h = refl
   device_left (edit.Event number e) n h = refl
   device_left (edit.DropEvent number) n h = refl
 
@@ -229,6 +234,9 @@ module _ (p : Project) where
     window_left (edit.Sink name position node index sub) h =
         steps_by (edit.Sink name position node index sub) (λ n. refl) refl
     window_left (edit.Unsink name position node) h = steps_by (edit.Unsink name position node) (λ n. refl) refl
+    window_left (edit.Receive name node rpdo event) h =
+        steps_by (edit.Receive name node rpdo event) (λ n. refl) refl
+    window_left (edit.Unreceive name node) h = steps_by (edit.Unreceive name node) (λ n. refl) refl
     window_left (edit.Event number e) h =
         let apart = neither (is_window_of i e.time) (is_window_at p.events number i) h in
         steps_by (edit.Event number e) (λ n. refl)

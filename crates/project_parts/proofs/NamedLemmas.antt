@@ -11,12 +11,9 @@ use Rattle.pdo_plan.specs.Plan.{plan_of}
 use Rattle.pdo_plan.proofs.NamedLemmas.{named_alike}
 use Rattle.pdo_stations.specs.Devices.{devices_of}
 use Rattle.project_plan.specs.Named.{is_flagged}
-use Rattle.project_parts.specs.Made.{plan_made, sections_if}
+use Rattle.project_parts.specs.Made.{plan_made, sections_if, sections_of}
 
 module _ (flags : List Bool) where
-  abbrev sections_of : ℕ × DataSheet → ℕ × List Section
-  sections_of d = (d.0, d.1.sections)
-
   module _ (node : ℕ) (named : is_flagged flags node ≡ true) where
     abbrev at_node : List (ℕ × List Section) → Option (List Section)
     at_node nodes = lookup (λ n. n == node) nodes
@@ -49,10 +46,19 @@ module _ (flags : List Bool) where
 pub named_planned : (devices : List (ℕ × DataSheet)) (messages : Named) (flags : List Bool)
     (nodes : List (ℕ × List Section)) → ((node : ℕ) → is_flagged flags node ≡ is_of_messages node messages)
     → nodes ≡ filter_map (sections_if flags) devices
-    → plan_of (devices_of nodes) (entries messages)
-    ≡ plan_made (record { devices = devices; messages = messages })
+    → plan_of (devices_of false nodes) (entries messages)
+    ≡ plan_made (record { is_three = false; devices = devices; messages = messages })
 unfolding plan_made
 named_planned devices messages flags nodes named is =
-    ap (λ (ns : List (ℕ × List Section)). plan_of (devices_of ns) (entries messages)) is
-    ∙ named_alike (filter_map (sections_if flags) devices) (map (sections_of flags) devices) messages
+    ap (λ (ns : List (ℕ × List Section)). plan_of (devices_of false ns) (entries messages)) is
+    ∙ named_alike (filter_map (sections_if flags) devices) (map sections_of devices) messages
     (λ node concerned. found flags node (named node ∙ concerned) devices)
+
+-- and over all of them in version 3
+pub all_planned : (devices : List (ℕ × DataSheet)) (messages : Named) (nodes : List (ℕ × List Section))
+    → nodes ≡ map sections_of devices
+    → plan_of (devices_of true nodes) (entries messages)
+    ≡ plan_made (record { is_three = true; devices = devices; messages = messages })
+unfolding plan_made
+all_planned devices messages nodes is =
+    ap (λ (ns : List (ℕ × List Section)). plan_of (devices_of true ns) (entries messages)) is

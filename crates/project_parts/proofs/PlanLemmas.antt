@@ -1,5 +1,5 @@
 -- The parts that are kept are the project's own.
-use Rattle.std.proofs.Common.{◌≡◌, ◌∙◌, ℕ, List, [], ◌∷◌, map, filter_map, Option, Some, None, option_map}
+use Rattle.std.proofs.Common.{◌≡◌, ◌⊎◌, inl, inr, ◌∙◌, ℕ, Bool, true, false, IsTrue, List, [], ◌∷◌, map, filter_map, Option, Some, None, option_map}
 use Rattle.std.proofs.Common.{option_and_then, refl, sym, ap, subst}
 use Rattle.std.specs.FinMap.{entries}
 use Rattle.std.specs.List.{cons_option}
@@ -12,12 +12,13 @@ use Rattle.pdo_stations.specs.Devices.{devices_of}
 use Rattle.pdo_plan.specs.Plan.{plan_of, IsMadeFor}
 use Rattle.pdo_plan.specs.declared.planned_message.PlannedMessage.{PlannedMessage}
 use Rattle.pdo_links.specs.Writes.{node_writes}
+use Rattle.project_edits.specs.Versions.{is_three}
 use Rattle.co_project.specs.declared.node.Node.{Node}
 use Rattle.co_project.specs.Project.{Content as Project}
 use Rattle.co_project.specs.Tables.{node_at, text_at}
 use Rattle.project_plan.specs.Network.{Member, member_at, plan_of_project, with_sections, writes_of}
 use Rattle.project_plan.proofs.NetworkLemmas.{made_for_member, sections_are, sections_at}
-use Rattle.project_parts.specs.Made.{concise_made, dcf_made, plan_made, writes_made}
+use Rattle.project_parts.specs.Made.{concise_made, dcf_made, plan_made, sections_of, writes_made}
 use Rattle.project_parts.specs.Given.{concise_from, dcf_from, dcf_of_node, node_with_device, plan_from, writes_from}
 use Rattle.project_plan.specs.Network.{device_at}
 use Rattle.project_parts.specs.Given.{writes_of_node}
@@ -31,12 +32,17 @@ member node text = record { node = node; sections = (content_of text).sections }
 given_same : (x y : DataSheet) → Some x ≡ Some y → x ≡ y
 given_same x y e = cc
 
--- a plan that is made for a node with its device, told of the same plan and device
-pub made_so : (old plan : List PlannedMessage) (own device : DataSheet) (n : ℕ) → plan ≡ old → device ≡ own
-    → IsMadeFor old own.sections n → IsMadeFor plan device.sections n
-made_so old plan own device n same alike made =
+-- a plan that in versions 1 and 2 is made for a node with its device, told of the same plan and device
+pub made_so : (is : Bool) (old plan : List PlannedMessage) (own device : DataSheet) (n : ℕ) → plan ≡ old → device ≡ own
+    → (is ≡ false → IsMadeFor old own.sections n) → is ≡ false → IsMadeFor plan device.sections n
+made_so is old plan own device n same alike made e =
     subst (λ (d : DataSheet). IsMadeFor plan d.sections n) (sym alike)
-    (subst (λ (ps : List PlannedMessage). IsMadeFor ps own.sections n) (sym same) made)
+    (subst (λ (ps : List PlannedMessage). IsMadeFor ps own.sections n) (sym same) (made e))
+
+-- of one of two versions, or made for the node
+pub either : {X : Type 0} (is : Bool) → (is ≡ false → X) → IsTrue is ⊎ X
+either true made = inl refl
+either false made = inr (made refl)
 
 -- writes that are values of the entries of one device are such of the same device
 pub values_of : (d e : DataSheet) (ws vs : List Write) → d ≡ e → ws ≡ vs → AreValuesOf d ws → AreValuesOf e vs
@@ -44,9 +50,6 @@ values_of d e ws vs same alike are =
     subst (λ (ws : List Write). AreValuesOf e ws) alike (subst (λ (d : DataSheet). AreValuesOf d ws) same are)
 
 module _ (p : Project) where
-  abbrev sections_of : ℕ × DataSheet → ℕ × List Section
-  sections_of d = (d.0, d.1.sections)
-
   numbered_is : (e : ℕ × Node) (o : Option (List ℕ)) (xs : List (ℕ × DataSheet))
       → map sections_of (cons_option (option_map (λ d. (e.0, d)) (option_map content_of o)) xs)
       ≡ cons_option (option_map (λ text. (e.0, (content_of text).sections)) o) (map sections_of xs)
@@ -63,21 +66,21 @@ module _ (p : Project) where
   pub plan_is : plan_made (plan_from p) ≡ plan_of_project p
   unfolding plan_made plan_of_project
   plan_is =
-      ap (λ (ns : List (ℕ × List Section)). plan_of (devices_of ns) (entries p.messages))
+      ap (λ (ns : List (ℕ × List Section)). plan_of (devices_of (is_three p.version) ns) (entries p.messages))
       (all_numbered (entries p.nodes) ∙ sym (sections_are p))
 
   module _ (n : ℕ) where
     abbrev written : Member → List Write
-    written m = node_writes (plan_of_project p) m.node.params m.sections n
+    written m = node_writes (is_three p.version) (plan_of_project p) m.node.params m.sections n
 
     abbrev dcf_text : Member → List ℕ
     dcf_text m = text_of (dcf_sections m.sections n m.node.name p.bitrate (written m))
 
     -- its writes, over the plan that is kept
     same_writes : (node : Node) (d : DataSheet)
-        → node_writes (plan_made (plan_from p)) node.params d.sections n
-        ≡ node_writes (plan_of_project p) node.params d.sections n
-    same_writes node d = ap (λ (plan : List PlannedMessage). node_writes plan node.params d.sections n) plan_is
+        → node_writes (is_three p.version) (plan_made (plan_from p)) node.params d.sections n
+        ≡ node_writes (is_three p.version) (plan_of_project p) node.params d.sections n
+    same_writes node d = ap (λ (plan : List PlannedMessage). node_writes (is_three p.version) plan node.params d.sections n) plan_is
 
     -- the writes of a node
     pub writes_are_of : option_map writes_made (writes_from p n)
@@ -87,6 +90,7 @@ module _ (p : Project) where
       where
         made : (node : Node) (o : Option (List ℕ))
             → option_map writes_made (option_map (λ d. record {
+              is_three = is_three p.version;
               plan = plan_made (plan_from p);
               params = node.params;
               device = d;
@@ -132,6 +136,7 @@ module _ (p : Project) where
               writes = writes_made w;
               node = n;
             }) (option_map (λ d. record {
+              is_three = is_three p.version;
               plan = plan_made (plan_from p);
               params = node.params;
               device = d;
@@ -157,10 +162,10 @@ module _ (p : Project) where
   member_there n node text known is =
       ap (option_and_then (with_sections p)) (sym known) ∙ ap (option_map (member node)) is
 
-  -- the plan that is kept is made for each node with its device
-  pub made_for : (n : ℕ) (node : Node) (device : DataSheet) → Some node ≡ node_at p.nodes n
+  -- in versions 1 and 2 the plan that is kept is made for each node with its device
+  pub made_for : is_three p.version ≡ false → (n : ℕ) (node : Node) (device : DataSheet) → Some node ≡ node_at p.nodes n
       → Some device ≡ device_at p node.eds → IsMadeFor (plan_made (plan_from p)) device.sections n
-  made_for n node device known there = by (text_at p.texts node.eds) refl
+  made_for old n node device known there = by (text_at p.texts node.eds) refl
     where
       by : (o : Option (List ℕ)) → text_at p.texts node.eds ≡ o
           → IsMadeFor (plan_made (plan_from p)) device.sections n
@@ -170,4 +175,10 @@ module _ (p : Project) where
           given_same device (content_of text) (there ∙ ap (option_map content_of) is) in
           subst (λ (d : DataSheet). IsMadeFor (plan_made (plan_from p)) d.sections n) (sym same)
           (subst (λ (plan : List PlannedMessage). IsMadeFor plan (content_of text).sections n) (sym plan_is)
-          (made_for_member p n (member node text) (member_there n node text known is)))
+          (made_for_member p n (member node text) old (member_there n node text known is)))
+
+  -- and so where it is known that the version is one of these
+  pub made_as_asked : (is : Bool) → is ≡ is_three p.version → (n : ℕ) (node : Node) (device : DataSheet)
+      → Some node ≡ node_at p.nodes n → Some device ≡ device_at p node.eds
+      → is ≡ false → IsMadeFor (plan_made (plan_from p)) device.sections n
+  made_as_asked is same n node device known there old = made_for (sym same ∙ old) n node device known there

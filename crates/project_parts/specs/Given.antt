@@ -3,6 +3,7 @@ use Rattle.std.specs.Prelude.{ℕ, Bool, true, false, List, Option, Some, ◌==�
 use Rattle.std.specs.FinMap.{entries}
 use Rattle.std.specs.Ordering.{eq_by_cmp}
 use Rattle.ini_text.specs.Content.{Content as DataSheet}
+use Rattle.project_edits.specs.Versions.{is_three}
 use Rattle.project_messages.specs.Messages.{name_cmp}
 use Rattle.co_project.specs.declared.node.Node.{Node}
 use Rattle.co_project.specs.Project.{Content as Project}
@@ -52,11 +53,21 @@ abbrev pub node_with_device : Project → ℕ × Node → Option (ℕ × DataShe
 node_with_device p e = option_map (λ d. (e.0, d)) (device_at p e.1.eds)
 
 abbrev pub plan_from : Project → PlanFrom
-plan_from p = record { devices = filter_map (node_with_device p) (entries p.nodes); messages = p.messages }
+plan_from p = record {
+  is_three = is_three p.version;
+  devices = filter_map (node_with_device p) (entries p.nodes);
+  messages = p.messages;
+}
 
 abbrev pub writes_of_node : Project → ℕ → Node → Option WritesFrom
 writes_of_node p n node =
-    option_map (λ d. record { plan = plan_made (plan_from p); params = node.params; device = d; node = n })
+    option_map (λ d. record {
+      is_three = is_three p.version;
+      plan = plan_made (plan_from p);
+      params = node.params;
+      device = d;
+      node = n;
+    })
     (device_at p node.eds)
 
 abbrev pub writes_from : Project → ℕ → Option WritesFrom

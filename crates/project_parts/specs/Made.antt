@@ -23,17 +23,21 @@ use Rattle.project_parts.specs.declared.concise_from.ConciseFrom.{ConciseFrom}
 use Rattle.project_parts.specs.declared.dcf_from.DcfFrom.{DcfFrom}
 use Rattle.project_parts.specs.Written.{DeviceWithWrites}
 
--- the plan of the messages over the devices of the nodes
+-- a node with the sections of its device
+abbrev pub sections_of : ℕ × DataSheet → ℕ × List Section
+sections_of d = (d.0, d.1.sections)
+
+-- the plan of the messages over the devices of the nodes, by the rules of version 3 or not
 unfoldable pub plan_made : PlanFrom → List PlannedMessage
-plan_made f = plan_of (devices_of (map (λ d. (d.0, d.1.sections)) f.devices)) (entries f.messages)
+plan_made f = plan_of (devices_of f.is_three (map sections_of f.devices)) (entries f.messages)
 
 -- a node that messages name, with the sections of its device
 abbrev pub sections_if : List Bool → ℕ × DataSheet → Option (ℕ × List Section)
-sections_if flags d = if is_flagged flags d.0 then Some (d.0, d.1.sections) else None
+sections_if flags d = if is_flagged flags d.0 then Some (sections_of d) else None
 
 -- the writes of a node
 unfoldable pub writes_made : WritesFrom → List Write
-writes_made f = node_writes f.plan f.params f.device.sections f.node
+writes_made f = node_writes f.is_three f.plan f.params f.device.sections f.node
 
 -- and its device with them
 abbrev pub written_made : WritesFrom → DeviceWithWrites

@@ -5,12 +5,13 @@ use Rattle.project_edits.specs.declared.edit.Edit.TheVariants as edit
 use Rattle.project_parts.specs.declared.touch.Touch.{Touch as TheTouch}
 use Rattle.project_parts.specs.declared.touch.Touch.TheVariants as touch
 
--- nothing; the bit rate; what else the manager is told; the text of the EDS of a name; the node of a number; its
+-- nothing; the bit rate; what else the manager is told; the version; the text of the EDS of a name; the node of a number; its
 -- parameters; the messages; the event of a number that comes to a time, or that goes
 pub data Touch : Type 0 where
   Nothing : Touch
   Rate : Touch
   Roster : Touch
+  Version : Touch
   Sheet : List ℕ → Touch
   Node : ℕ → Touch
   Parameters : ℕ → Touch
@@ -20,7 +21,7 @@ pub data Touch : Type 0 where
 
 -- THE TABLE: what an edit changes, from which all marks follow
 abbrev pub touch_of : Edit → Touch
-touch_of (edit.Version version) = Roster
+touch_of (edit.Version version) = Version
 touch_of (edit.Bitrate rate) = Rate
 touch_of (edit.Horizon time) = Nothing
 touch_of (edit.Manager m) = Roster
@@ -39,6 +40,8 @@ touch_of (edit.Source name position index sub) = Messages
 touch_of (edit.Unsource name position) = Messages
 touch_of (edit.Sink name position node index sub) = Messages
 touch_of (edit.Unsink name position node) = Messages
+touch_of (edit.Receive name node rpdo event) = Messages
+touch_of (edit.Unreceive name node) = Messages
 touch_of (edit.Event number e) = Event number e.time
 touch_of (edit.DropEvent number) = NoEvent number
 
@@ -47,6 +50,7 @@ abbrev pub touch_value : TheTouch → Touch
 touch_value touch.Nothing = Nothing
 touch_value touch.Rate = Rate
 touch_value touch.Roster = Roster
+touch_value touch.Version = Version
 touch_value (touch.Sheet name) = Sheet name.now
 touch_value (touch.Node id) = Node id
 touch_value (touch.Parameters id) = Parameters id

@@ -9,7 +9,8 @@ use Rattle.project_messages.specs.Messages.{name_cmp}
 use Rattle.co_project.specs.Project.{Content as Project}
 use Rattle.co_scenario.specs.Scenario.{Events}
 use Rattle.co_scenario.specs.declared.timed_event.TimedEvent.{TimedEvent}
-use Rattle.project_parts.specs.Touch.{Event, Messages, NoEvent, Node, Nothing, Parameters, Rate, Roster, Sheet, Touch, touch_of}
+use Rattle.project_parts.specs.Touch.{Event, Messages, NoEvent, Node, Nothing, Parameters, Rate, Roster, Sheet, Touch}
+use Rattle.project_parts.specs.Touch.{Version, touch_of}
 use Rattle.project_parts.specs.declared.part.Part.{Part}
 use Rattle.project_parts.specs.declared.part.Part.TheVariants as part
 
@@ -71,6 +72,7 @@ abbrev pub goes_into : Events → Touch → Part → Bool
 goes_into events Nothing q = false
 goes_into events Rate q = says_rate q
 goes_into events Roster q = is_roster q
+goes_into events Version q = is_roster q || is_planned q
 goes_into events (Sheet name) q = is_of_text name q
 goes_into events (Node id) q = is_of_network id q
 goes_into events (Parameters id) q = is_of_node id q

@@ -1,8 +1,8 @@
 //! The devices of nodes.
-ghost use Rattle.std.specs.Prelude.{◌≡◌, ◌↔◌, IsTrue, IfOk, OnOk, [], ◌++◌, filter_map, option_map};
+ghost use Rattle.std.specs.Prelude.{◌≡◌, ◌↔◌, IsTrue, IfOk, OnOk, [], ◌++◌, filter_map, map, option_map};
 ghost use Rattle.std.specs.Option.{option_to_list};
 ghost use Rattle.pdo_stations.specs.Shown.{nodes_of};
-ghost use Rattle.project_parts.specs.Made.{sections_if};
+ghost use Rattle.project_parts.specs.Made.{sections_if, sections_of};
 
 use base::Shared;
 use eds_device::DataSheet;
@@ -80,6 +80,22 @@ fn references<'a>(
     Ok(nodes)
 }
 
+/// All of them, with references to their devices.
+fn all_references<'a>(
+    alloc: Global,
+    items: &'a [(u8, Shared<DataSheet>)],
+) -> Result<Vec<(u8, &'a DataSheet)>, AllocError>
+    ensures { IfOk result (λ nodes. nodes_of nodes.items ≡ map sections_of items.now) }
+{
+    let mut nodes = Vec::new(alloc);
+    let mut rest = items;
+    while let [(number, device), after @ ..] = rest {
+        nodes.push((*number, device.get()))?;
+        rest = after;
+    }
+    Ok(nodes)
+}
+
 impl NodeDevices {
     /// No nodes.
     pub fn new(alloc: Global) -> NodeDevices
@@ -127,5 +143,13 @@ impl NodeDevices {
         ensures { IfOk result (λ nodes. nodes_of nodes.items ≡ filter_map (sections_if named.now) self.now) }
     {
         references(alloc, &self.items, named)
+    }
+
+    /// All nodes, with references to their devices. Takes time and memory by their number; want of memory
+    /// is the only error.
+    pub fn all_references(&self, alloc: Global) -> Result<Vec<(u8, &DataSheet)>, AllocError>
+        ensures { IfOk result (λ nodes. nodes_of nodes.items ≡ map sections_of self.now) }
+    {
+        all_references(alloc, &self.items)
     }
 }

@@ -9,6 +9,8 @@ use project_messages::Messages;
 /// The nodes with their devices, and the messages.
 #[derive(Drop)]
 pub struct PlanFrom {
+    /// Whether the rules are those of version 3.
+    pub is_three: bool,
     /// The nodes that have one with their devices, by number.
     pub devices: NodeDevices,
     /// The messages.

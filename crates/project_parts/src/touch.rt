@@ -13,13 +13,15 @@ pub enum Touch<'a> {
     Rate,
     /// What else the manager (CiA 302) is told: its numbers, the counter of SYNC, which nodes are mandatory.
     Roster,
+    /// The version, by which the plan is made and the manager starts nodes.
+    Version,
     /// The text of the EDS of a name.
     Sheet(&'a [u8]),
     /// The node of a number: it comes, goes, or gets another name or EDS.
     Node(u8),
     /// The parameters of the node of a number.
     Parameters(u8),
-    /// The messages, with their sources and sinks.
+    /// The messages, with their sources, sinks and receives.
     Messages,
     /// The event of a number, which comes to this time in microseconds.
     Event(u16, u32),
@@ -33,7 +35,7 @@ pub fn touch_of(edit: &Edit) -> Touch<'_>
     ensures { touch_value result ≡ touch_of edit.now }
 {
     match edit {
-        Edit::Version(_) => Touch::Roster,
+        Edit::Version(_) => Touch::Version,
         Edit::Bitrate(_) => Touch::Rate,
         Edit::Horizon(_) => Touch::Nothing,
         Edit::Manager(_) => Touch::Roster,
@@ -52,6 +54,8 @@ pub fn touch_of(edit: &Edit) -> Touch<'_>
         Edit::Unsource { .. } => Touch::Messages,
         Edit::Sink { .. } => Touch::Messages,
         Edit::Unsink { .. } => Touch::Messages,
+        Edit::Receive { .. } => Touch::Messages,
+        Edit::Unreceive { .. } => Touch::Messages,
         Edit::Event { number, event } => Touch::Event(*number, event.time),
         Edit::DropEvent { number } => Touch::NoEvent(*number),
     }

@@ -10,6 +10,8 @@ use pdo_plan::Plan;
 /// The plan, and the parameters, the device and the number of a node.
 #[derive(Drop)]
 pub struct WritesFrom {
+    /// Whether the rules are those of version 3.
+    pub is_three: bool,
     /// The plan of messages.
     pub plan: Shared<Plan>,
     /// The parameters of the node.

@@ -1,4 +1,5 @@
 //! The inputs of a node's writes as they lie in a project.
+ghost use Rattle.std.specs.Prelude.{◌≡◌, false};
 ghost use Rattle.pdo_plan.specs.Plan.{IsMadeFor};
 
 use crate::device_writes::DeviceWrites;
@@ -12,15 +13,16 @@ use pdo_plan::Plan;
 use project_plan::NodeWrites;
 use std::alloc::{AllocError, Global};
 
-/// The plan, and the parameters, the device and the number of a node. The plan is made for that device
-/// as this node.
+/// The version's rules, the plan, and the parameters, the device and the number of a node. In versions 1 and 2 the plan
+/// is made for that device as this node.
 #[derive(Drop)]
 pub struct WritesNow<'a> {
+    pub is_three: bool,
     pub plan: Shared<Plan>,
     pub params: &'a Params,
     pub device: Shared<DataSheet>,
     pub node: u8,
-    ghost made_for: { IsMadeFor plan device.sections node },
+    ghost made_for: { is_three ≡ false → IsMadeFor plan device.sections node },
 }
 
 impl<'a> WritesNow<'a> {
@@ -46,6 +48,7 @@ impl<'a> WritesNow<'a> {
         let known = project.node(node)?;
         let device = device?;
         Some(WritesNow {
+            is_three: project.version().is_three(),
             plan,
             params: &known.params,
             device,
@@ -61,7 +64,8 @@ impl<'a> Offers<WritesFrom, DeviceWrites> for WritesNow<'a> {
     ghost offered = { offered_writes };
 
     fn same(&self, kept: &WritesFrom) -> bool {
-        kept.node == self.node
+        kept.is_three == self.is_three
+            && kept.node == self.node
             && kept.params.same(self.params)
             && kept.plan.get().same(self.plan.get())
             && kept.device.get().same(self.device.get())
@@ -72,6 +76,7 @@ impl<'a> Offers<WritesFrom, DeviceWrites> for WritesNow<'a> {
         let params = self.params.copy()?;
         let device = self.device.share()?;
         Ok(WritesFrom {
+            is_three: self.is_three,
             plan,
             params,
             device,
@@ -83,6 +88,7 @@ impl<'a> Offers<WritesFrom, DeviceWrites> for WritesNow<'a> {
     fn make(&self, alloc: Global) -> Result<DeviceWrites, AllocError> {
         let writes = pdo_links::writes(
             alloc,
+            self.is_three,
             self.plan.get(),
             self.params,
             self.device.get(),

@@ -19,6 +19,7 @@ use Rattle.pdo_plan.proofs.ChainLemmas.{all_clean, each_within}
 use Rattle.pdo_plan.proofs.FreeLemmas.{apart_at, rpdos_apart, tpdos_apart}
 use Rattle.pdo_plan.proofs.JudgedLemmas.{clean_within}
 use Rattle.pdo_links.specs.Order.{IsSentAlone, IsTakenAlone}
+use Rattle.project_edits.specs.Versions.{is_three}
 use Rattle.project_plan.specs.Network.{sections_of_members, plan_of_project}
 
 -- ---- places in lists
@@ -45,13 +46,13 @@ module _ (p : Content) (sound : IsSound p) where
   cs = clean (plan_of_project p)
 
   abbrev devices : Devices
-  devices = devices_of (sections_of_members p)
+  devices = devices_of (is_three p.version) (sections_of_members p)
 
   -- and so are the clean ones
   pub all_within : All IsWithin (clean (plan_of_project p))
   unfolding plan_of_project
   all_within = all_clean IsWithin cs (each_within devices (λ before c. IsWithin c)
-      (λ before m c kept e. clean_within (had_by before) devices m c kept e) (entries p.messages) all_linked)
+      (λ withheld before m c kept e. clean_within (had_by withheld before) devices m c kept e) (entries p.messages) all_linked)
 
   pub within : (c : Clean) → Contains (clean (plan_of_project p)) c → IsWithin c
   within c has = All-contains IsWithin cs c all_within has

@@ -20,15 +20,18 @@ use Rattle.pdo_stations.specs.Devices.{Devices, devices_of, has_unsigned, takes_
 use Rattle.cia301.specs.PdoObjects.{mapping_object, tpdo_object}
 use Rattle.pdo_plan.specs.declared.clean.Clean.{Clean}
 use Rattle.pdo_plan.specs.declared.outcome.Outcome.TheVariants.{Planned}
-use Rattle.pdo_plan.specs.Plan.{clean, had_by, judged_message}
+use Rattle.pdo_plan.specs.Plan.{Withheld, clean, had_by, judged_message, plan_of}
 use Rattle.pdo_plan.proofs.ChainLemmas.{all_clean, each_clean}
 use Rattle.pdo_plan.proofs.FreeLemmas.{faultless}
 use Rattle.pdo_plan.proofs.JudgedLemmas.{judged_clean}
-use Rattle.pdo_links.specs.Writes.{cob_write, mapping_writes, start_write, time_write, tpdo_writes, write_at}
+use Rattle.pdo_links.specs.PdoWrites.{cob_write, mapping_writes, write_at}
+use Rattle.pdo_links.specs.Writes.{start_write, time_write, tpdo_writes}
 use Rattle.pdo_links.proofs.Values.{first_of, second_of}
+use Rattle.project_edits.specs.Versions.{is_three}
 use Rattle.project_plan.specs.Network.{member_at, sections_of_members, plan_of_project, writes_of, Member}
 use Rattle.project_plan.proofs.NetworkLemmas.{described_at}
 use Rattle.project_plan.specs.Nodes.{IsSoundNode, Sends}
+use Rattle.project_plan.specs.Pdos.{sent_writes}
 use Rattle.project_plan.proofs.WritesLemmas.{sent_is_there}
 
 -- ---- the sender has what is asked
@@ -42,11 +45,12 @@ record IsAsked (d : Devices) (c : Clean) : Type 0 where
   event : Takes d c.message.node c.message.tpdo Bits16 5 c.message.event
   start : Takes d c.message.node c.message.tpdo Bits8 6 c.start
 
-clean_asked : (d : Devices) (before : List Clean) (m : Linked) (c : Clean)
-    → judged_message (had_by before) d m ≡ Planned c → IsAsked d c
-clean_asked d before m c e =
-    let is = judged_clean (had_by before) d m c e in
-    let objects = (faultless (had_by before) d m is.faultless).objects in
+clean_asked : (nodes : List (ℕ × List Section)) (withheld : Withheld) (before : List Clean) (m : Linked) (c : Clean)
+    → judged_message (had_by withheld before) (devices_of false nodes) m ≡ Planned c → IsAsked (devices_of false nodes) c
+clean_asked nodes withheld before m c e =
+    let d : Devices = devices_of false nodes in
+    let is = judged_clean (had_by withheld before) d m c e in
+    let objects = (faultless (had_by withheld before) d m is.faultless).objects in
     let times = second_of _ _ (first_of _ _ objects) in
     let start : Takes d m.message.node m.message.tpdo Bits8 6 c.start =
     subst (λ (n : ℕ). Takes d m.message.node m.message.tpdo Bits8 6 n) is.start (second_of _ _ objects) in
@@ -56,13 +60,16 @@ clean_asked d before m c e =
       start = subst (λ (x : Message). Takes d x.node x.tpdo Bits8 6 c.start) is.message start;
     }
 
-all_asked : (p : Content) (c : Clean) → Contains (clean (plan_of_project p)) c → IsAsked (devices_of (sections_of_members p)) c
+all_asked : (p : Content) (c : Clean) → is_three p.version ≡ false → Contains (clean (plan_of_project p)) c
+    → IsAsked (devices_of false (sections_of_members p)) c
 unfolding plan_of_project
-all_asked p c has =
-    let d : Devices = devices_of (sections_of_members p) in
-    All-contains (IsAsked d) (clean (plan_of_project p)) c
-    (all_clean (IsAsked d) (clean (plan_of_project p))
-    (each_clean d (λ before c. IsAsked d c) (clean_asked d) (entries p.messages))) has
+all_asked p c old has =
+    let d : Devices = devices_of false (sections_of_members p) in
+    let planned : List Clean = clean (plan_of d (entries p.messages)) in
+    All-contains (IsAsked d) planned c
+    (all_clean (IsAsked d) planned
+    (each_clean d (λ before c. IsAsked d c) (clean_asked (sections_of_members p)) (entries p.messages)))
+    (subst (λ (b : Bool). Contains (clean (plan_of (devices_of b (sections_of_members p)) (entries p.messages))) c) old has)
 
 besides_none : (n : ℕ) (b : Bool) → (n == 0 || b) ≡ true → (n ≡ 0 → ⊥) → b ≡ true
 besides_none n b test other = by (n == 0) refl test
@@ -74,15 +81,20 @@ besides_none n b test other = by (n == 0) refl test
 module _ (p : Content) (id : ℕ) (m : Member) (there : member_at p id ≡ Some m) where
   -- the entry of the node's own EDS takes it
   entry_takes : (tpdo node : ℕ) (width : Width) (sub value : ℕ) → node ≡ id
-      → Takes (devices_of (sections_of_members p)) node tpdo width sub value → (value ≡ 0 → ⊥)
+      → Takes (devices_of false (sections_of_members p)) node tpdo width sub value → (value ≡ 0 → ⊥)
       → option_map_or (takes_unsigned width) (entry_at m.sections id (tpdo_object tpdo) sub) false ≡ true
   entry_takes tpdo node width sub value is takes other =
-      let test : has_unsigned (devices_of (sections_of_members p)) id width (tpdo_object tpdo, sub) ≡ true =
-      besides_none value (has_unsigned (devices_of (sections_of_members p)) id width (tpdo_object tpdo, sub))
-      (subst (λ (n : ℕ). Takes (devices_of (sections_of_members p)) n tpdo width sub value) is takes) other in
+      let test : has_unsigned (devices_of false (sections_of_members p)) id width (tpdo_object tpdo, sub) ≡ true =
+      besides_none value (has_unsigned (devices_of false (sections_of_members p)) id width (tpdo_object tpdo, sub))
+      (subst (λ (n : ℕ). Takes (devices_of false (sections_of_members p)) n tpdo width sub value) is takes) other in
       subst (λ (o : Option (List Section)). option_map_or (takes_unsigned width)
       (option_and_then (λ ss. entry_at ss id (tpdo_object tpdo) sub) o) false ≡ true)
       (described_at p id m there) test
+
+-- what is written in versions 1 and 2
+by_old : (p : Content) → is_three p.version ≡ false → (id : ℕ) (m : Member) (c : Clean) (w : Write)
+    → Contains (tpdo_writes m.sections id c) w → Contains (sent_writes p m id c) w
+by_old p old id m c w has = rw old has
 
 -- ---- it is written
 
@@ -119,9 +131,10 @@ module _ (ss : List Section) (node : ℕ) where
         Contains-append_right off (timing ++ mapping ++ on) w
         (Contains-append_left (timing ++ mapping) on w (Contains-append_left timing mapping w has))
 
-module _ (p : Content) (id : ℕ) (m : Member) (c : Clean) (node : IsSoundNode p id m) (sends : Sends p id c) where
-  asked : IsAsked (devices_of (sections_of_members p)) c
-  asked = all_asked p c sends.planned
+module _ (p : Content) (old : is_three p.version ≡ false) (id : ℕ) (m : Member) (c : Clean) (node : IsSoundNode p id m)
+    (sends : Sends p id c) where
+  asked : IsAsked (devices_of false (sections_of_members p)) c
+  asked = all_asked p c old sends.planned
 
   pub inhibit_written : (c.message.inhibit ≡ 0 → ⊥)
       → Contains (writes_of p m id) (write_at (tpdo_object c.message.tpdo) 3 (little_bytes 2 c.message.inhibit))
@@ -131,9 +144,9 @@ module _ (p : Content) (id : ℕ) (m : Member) (c : Clean) (node : IsSoundNode p
       asked.inhibit other in
       let has : Contains (inhibit m.sections id c) w = in_time m.sections id (tpdo_object c.message.tpdo) 3
       c.message.inhibit test in
-      sent_is_there p id m c w node sends (in_tpdo m.sections id c w
+      sent_is_there p id m c w node sends (by_old p old id m c w (in_tpdo m.sections id c w
       (Contains-append_left (inhibit m.sections id c ++ event m.sections id c) (start m.sections id c) w
-      (Contains-append_left (inhibit m.sections id c) (event m.sections id c) w has)))
+      (Contains-append_left (inhibit m.sections id c) (event m.sections id c) w has))))
 
   pub event_written : (c.message.event ≡ 0 → ⊥)
       → Contains (writes_of p m id) (write_at (tpdo_object c.message.tpdo) 5 (little_bytes 2 c.message.event))
@@ -143,9 +156,9 @@ module _ (p : Content) (id : ℕ) (m : Member) (c : Clean) (node : IsSoundNode p
       asked.event other in
       let has : Contains (event m.sections id c) w = in_time m.sections id (tpdo_object c.message.tpdo) 5
       c.message.event test in
-      sent_is_there p id m c w node sends (in_tpdo m.sections id c w
+      sent_is_there p id m c w node sends (by_old p old id m c w (in_tpdo m.sections id c w
       (Contains-append_left (inhibit m.sections id c ++ event m.sections id c) (start m.sections id c) w
-      (Contains-append_right (inhibit m.sections id c) (event m.sections id c) w has)))
+      (Contains-append_right (inhibit m.sections id c) (event m.sections id c) w has))))
 
   pub start_written : (c.start ≡ 0 → ⊥)
       → Contains (writes_of p m id) (write_at (tpdo_object c.message.tpdo) 6 (c.start ∷ []))
@@ -154,5 +167,5 @@ module _ (p : Content) (id : ℕ) (m : Member) (c : Clean) (node : IsSoundNode p
       let test = entry_takes p id m node.there c.message.tpdo c.message.node Bits8 6 c.start sends.sender asked.start
       other in
       let has : Contains (start m.sections id c) w = in_start m.sections id (tpdo_object c.message.tpdo) c.start test in
-      sent_is_there p id m c w node sends (in_tpdo m.sections id c w
-      (Contains-append_right (inhibit m.sections id c ++ event m.sections id c) (start m.sections id c) w has))
+      sent_is_there p id m c w node sends (by_old p old id m c w (in_tpdo m.sections id c w
+      (Contains-append_right (inhibit m.sections id c ++ event m.sections id c) (start m.sections id c) w has)))

@@ -2,7 +2,7 @@
 use Rattle.std.proofs.Common.{◌≡◌, ◌≤◌, ◌∙◌, ℕ, Bool, true, false, cond, List, [], ◌∷◌, length, All, Contains, IfSome}
 use Rattle.std.proofs.Common.{Option, Some, None, Ok, Err, refl, sym, ap, subst, nat_lt, arith}
 use Rattle.std.specs.FinMap.{empty, get}
-use Rattle.std.proofs.lemmas.List.Elements.{All-contains_itself, All-weaker}
+use Rattle.std.proofs.lemmas.List.Elements.{All-contains, All-contains_itself, All-weaker}
 use Rattle.std.specs.List.{AllByRecursion}
 use Rattle.ini_text.specs.Content.{Pair, Section, content_of}
 use Rattle.ini_text.specs.Printable.{IsPrintable, IsPrintablePair, IsPrintableSection, IsValue}
@@ -32,6 +32,10 @@ use Rattle.eds_dcf.proofs.LengthLemmas.{IsShortSection, dcf_short, printed_short
 use Rattle.eds_dcf.proofs.CarriedLemmas.{carried, dcf_entry, LeaveParameters}
 use Rattle.eds_dcf.proofs.PrintedLemmas.{dcf_again, dcf_printable}
 use Rattle.eds_dcf.proofs.WholeLemmas.{dcf_pairs}
+use Rattle.cia301.specs.PdoObjects.{is_of_pdos}
+use Rattle.project_edits.specs.Versions.{is_three}
+use Rattle.pdo_stations.specs.Devices.{as_made}
+use Rattle.pdo_links.specs.VendorWrites.{vendor_link_writes}
 use Rattle.pdo_links.specs.Writes.{link_writes, node_writes}
 use Rattle.co_project.specs.Project.{Content}
 use Rattle.co_project.specs.Sound.{IsNodeOf}
@@ -44,6 +48,8 @@ use Rattle.project_plan.proofs.DcfLemmas.{given, left_alone, to_another}
 use Rattle.project_plan.proofs.MappedLemmas.{all_writable}
 use Rattle.project_plan.proofs.MemberLemmas.{is_device, is_node, is_setting, member, no_pdo_params, IsMember}
 use Rattle.project_plan.proofs.PdoLemmas.{links_pdo, not_pdo}
+use Rattle.project_plan.proofs.VendorPdoLemmas.{vendor_links_pdo}
+use Rattle.project_plan.proofs.VendorValueLemmas.{vendor_all_given}
 use Rattle.project_plan.proofs.ReadBytesLemmas.{content_good}
 use Rattle.project_plan.proofs.ReadLengthLemmas.{content_short}
 use Rattle.project_plan.proofs.TextLemmas.{HasNoLongLine, name_good, name_short, name_value, sections_again}
@@ -116,8 +122,14 @@ module _ (project : Content) (id : ℕ) (m : Member) (node : IsSoundNode project
 
   all : All (λ (w : Write). IsGiven m.sections id (w.index, w.sub) w.bytes) (writes_of project m id)
   unfolding writes_of
-  all = all_given m.sections id (plan_of_project project) (made_for_member project id m node.there)
-      (all_within project node.sound) (all_writable project node.sound) m.node.params values_in_line lines
+  all = by (is_three project.version) refl
+    where
+      by : (b : Bool) → is_three project.version ≡ b → All (λ (w : Write). IsGiven m.sections id (w.index, w.sub) w.bytes)
+          (node_writes b (plan_of_project project) m.node.params m.sections id)
+      by true e = vendor_all_given (plan_of_project project) m.sections id (all_within project node.sound)
+          (all_writable project node.sound) m.node.params values_in_line lines
+      by false e = all_given m.sections id (plan_of_project project) (made_for_member project id m e node.there)
+          (all_within project node.sound) (all_writable project node.sound) m.node.params values_in_line lines
 
   all_stand : All (StandsInLine m.sections) (writes_of project m id)
   all_stand = All-weaker (λ (w : Write). IsGiven m.sections id (w.index, w.sub) w.bytes) (StandsInLine m.sections)
@@ -133,15 +145,22 @@ module _ (project : Content) (id : ℕ) (m : Member) (node : IsSoundNode project
   values place = ap (λ (ss : List Section). value_given ss id place) again
       ∙ given m.sections id m.node.name project.bitrate (writes_of project m id) all place
 
+  -- the plan writes PDOs alone
+  of_pdos : (b : Bool) (w : Write) → Contains (link_writes b (plan_of_project project) m.sections id) w
+      → is_of_pdos w.index ≡ true
+  of_pdos true w has = All-contains (λ (w : Write). is_of_pdos w.index ≡ true)
+      (vendor_link_writes (plan_of_project project) (as_made m.sections id) id) w
+      (vendor_links_pdo (plan_of_project project) (as_made m.sections id) id) has
+  of_pdos false w has = links_pdo (plan_of_project project) m.sections id (within project node.sound) w has
+
   -- what the plan writes leaves the parameters
   parameters_left : LeaveParameters m.sections m.node.params id (writes_of project m id)
   unfolding writes_of node_writes
   parameters_left place other =
-      let links : List Write = link_writes (plan_of_project project) m.sections id in
+      let links : List Write = link_writes (is_three project.version) (plan_of_project project) m.sections id in
       left_alone place (parameter_writes m.sections m.node.params id) links
       (All-weaker (Contains links) (λ w. is_to place w ≡ false)
-      (λ w has. to_another place w other (links_pdo (plan_of_project project) m.sections id
-      (within project node.sound) w has)) links (All-contains_itself links))
+      (λ w has. to_another place w other (of_pdos (is_three project.version) w has)) links (All-contains_itself links))
 
   pub parameters : parameter_writes (content_of (dcf_text project id m)).sections empty id
       ≡ parameter_writes m.sections m.node.params id

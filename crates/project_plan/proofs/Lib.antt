@@ -2,6 +2,7 @@ pub mod LibraryLemmas
 pub mod NamedLemmas
 pub mod NetworkLemmas
 pub mod WrittenLemmas
+pub mod VendorWantedLemmas
 pub mod WantedLemmas
 pub mod SentLemmas
 mod AloneLemmas
@@ -18,3 +19,6 @@ mod TextLemmas
 mod ValueLemmas
 mod WritesLemmas
 mod AskedLemmas
+mod VendorAskedLemmas
+mod VendorPdoLemmas
+mod VendorValueLemmas

@@ -28,13 +28,14 @@ use Rattle.pdo_plan.specs.declared.clean.Clean.{Clean}
 use Rattle.pdo_plan.specs.declared.consumer.Consumer.{Consumer}
 use Rattle.pdo_plan.specs.declared.outcome.Outcome.TheVariants.{Planned}
 use Rattle.pdo_plan.specs.Mapping.{mapped_bytes, sent_mapping, source_bits, taken_at, taken_mapping, Sinks, Sources}
-use Rattle.pdo_plan.specs.Plan.{clean, consumer_of, consumers_of, had_by, judged_message, planned_consumers, Had}
+use Rattle.pdo_plan.specs.Plan.{clean, consumer_of, consumers_of, had_by, judged_message, planned_consumers, Had, Withheld}
 use Rattle.pdo_plan.proofs.ChainLemmas.{all_clean, each_within}
 use Rattle.pdo_plan.proofs.JudgedLemmas.{consumer_is, each_given, judged_clean}
 use Rattle.pdo_links.specs.Tables.{AreMapped}
 use Rattle.pdo_links.proofs.Values.{two_bytes}
 use Rattle.co_project.specs.Project.{Content}
 use Rattle.co_project.specs.Sound.{IsSound}
+use Rattle.project_edits.specs.Versions.{is_three}
 use Rattle.project_plan.specs.Network.{sections_of_members, plan_of_project}
 use Rattle.project_plan.proofs.AloneLemmas.{all_linked}
 
@@ -181,15 +182,15 @@ writable_transmission m is = small_sub m.transmission is.3
 small_start : (start : ℕ) → is_start start ≡ true → start < 256
 small_start start is = grind (arith, nat_tests)
 
-writable : (devices : Devices) (before : List Clean) (m : Linked) (c : Clean) → IsLinked m
-    → judged_message (had_by before) devices m ≡ Planned c → IsWritable c
+writable : (devices : Devices) (withheld : Withheld) (before : List Clean) (m : Linked) (c : Clean) → IsLinked m
+    → judged_message (had_by withheld before) devices m ≡ Planned c → IsWritable c
 unfolding IsLinked
-writable devices before m c kept e =
-    let is = judged_clean (had_by before) devices m c e in
+writable devices withheld before m c kept e =
+    let is = judged_clean (had_by withheld before) devices m c e in
     record {
       sent = subst AreMapped is.mapping (sent_mappable devices m.message.node m.sources kept.2);
       taken = subst (λ (ks : List Consumer). All (λ (k : Consumer). AreMapped k.mapping) ks) is.consumers
-          (consumers_writable (had_by before) devices m kept.3);
+          (consumers_writable (had_by withheld before) devices m kept.3);
       transmission = subst (λ (x : Message). x.transmission < 256) is.message (writable_transmission m.message kept.0);
       start = subst (λ (n : ℕ). n < 256) is.start (small_start m.start kept.1);
     }
@@ -197,6 +198,6 @@ writable devices before m c kept e =
 pub all_writable : (p : Content) → IsSound p → All IsWritable (clean (plan_of_project p))
 unfolding plan_of_project
 all_writable p sound =
-    let devices : Devices = devices_of (sections_of_members p) in
+    let devices : Devices = devices_of (is_three p.version) (sections_of_members p) in
     all_clean IsWritable _ (each_within devices (λ before c. IsWritable c) (writable devices) (entries p.messages)
     (all_linked p sound))

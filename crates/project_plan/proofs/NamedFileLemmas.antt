@@ -20,11 +20,12 @@ use Rattle.pdo_plan.specs.declared.outcome.Outcome.{Outcome}
 use Rattle.pdo_plan.specs.declared.outcome.Outcome.TheVariants.{Planned, Faulty}
 use Rattle.pdo_plan.specs.declared.planned_message.PlannedMessage.{PlannedMessage}
 use Rattle.pdo_plan.specs.Mapping.{Sinks}
-use Rattle.pdo_plan.specs.Plan.{Had, clean, consumer_of, consumers_of, had_by, judged_message, nodes_put}
-use Rattle.pdo_plan.specs.Plan.{planned_consumers, plan_after, plan_of, planned_message}
+use Rattle.pdo_plan.specs.Plan.{Had, Withheld, clean, consumer_of, consumers_of, had_by, judged_message, nodes_put}
+use Rattle.pdo_plan.specs.Plan.{planned_consumers, plan_after, plan_of, planned_message, withheld_by}
 use Rattle.pdo_plan.proofs.JudgedLemmas.{consumer_is, judged_clean}
 use Rattle.pdo_plan.proofs.OrderLemmas.{all_inserted}
 use Rattle.pdo_links.specs.Order.{IsNamedByNone}
+use Rattle.project_edits.specs.Versions.{is_three}
 use Rattle.project_plan.specs.Network.{sections_of_members, plan_of_project}
 
 module _ (node : ℕ) where
@@ -74,31 +75,32 @@ module _ (node : ℕ) where
               (sym is.consumers) has) same,
         )
 
-    after : (before : List Clean) (ms : List (List ℕ × Linked)) → list_any (λ e. is_of_message node e.1) ms ≡ false
-        → AllByRecursion Unnamed (clean (plan_after devices before ms))
-    after before [] none = tt
-    after before (m ∷ ms) none =
+    after : (withheld : Withheld) (before : List Clean) (ms : List (List ℕ × Linked))
+        → list_any (λ e. is_of_message node e.1) ms ≡ false
+        → AllByRecursion Unnamed (clean (plan_after withheld devices before ms))
+    after withheld before [] none = tt
+    after withheld before (m ∷ ms) none =
         let parts = or_parts (is_of_message node m.1) (list_any (λ e. is_of_message node e.1) ms) none in
-        let said : PlannedMessage = planned_message (had_by before) devices m in
-        by parts.0 (judged_message (had_by before) devices m.1) refl
-        (plan_after devices (before ++ clean (said ∷ [])) ms) (after (before ++ clean (said ∷ [])) ms parts.1)
+        let said : PlannedMessage = planned_message (had_by withheld before) devices m in
+        by parts.0 (judged_message (had_by withheld before) devices m.1) refl
+        (plan_after withheld devices (before ++ clean (said ∷ [])) ms)
+        (after withheld (before ++ clean (said ∷ [])) ms parts.1)
       where
-        by : is_of_message node m.1 ≡ false → (o : Outcome) → judged_message (had_by before) devices m.1 ≡ o
+        by : is_of_message node m.1 ≡ false → (o : Outcome) → judged_message (had_by withheld before) devices m.1 ≡ o
             → (rest : List PlannedMessage) → AllByRecursion Unnamed (clean rest)
             → AllByRecursion Unnamed (clean ((let p : PlannedMessage = record { name = m.0; outcome = o } in p) ∷ rest))
-        by none (Planned c) e rest all = (unnamed (had_by before) m.1 c none e, all)
+        by none (Planned c) e rest all = (unnamed (had_by withheld before) m.1 c none e, all)
         by none (Faulty fs) e rest all = all
 
     unnamed_all : (ms : List (List ℕ × Linked)) → list_any (λ e. is_of_message node e.1) ms ≡ false
         → AllByRecursion Unnamed (clean (plan_of devices ms))
     unfolding plan_of
-    unnamed_all ms none = after [] ms none
+    unnamed_all ms none = after (withheld_by devices ms) [] ms none
 
   pub named_by_none : (p : Content) → is_of_messages node p.messages ≡ false
       → IsNamedByNone (clean (plan_of_project p)) node
   unfolding plan_of_project
   named_by_none p none c has =
-      All-contains (Unnamed (devices_of (sections_of_members p)))
-      (clean (plan_of (devices_of (sections_of_members p)) (entries p.messages))) c
-      (All-from_recursion (Unnamed (devices_of (sections_of_members p))) _ (unnamed_all (devices_of (sections_of_members p))
-      (entries p.messages) none)) has
+      let devices : Devices = devices_of (is_three p.version) (sections_of_members p) in
+      All-contains (Unnamed devices) (clean (plan_of devices (entries p.messages))) c
+      (All-from_recursion (Unnamed devices) _ (unnamed_all devices (entries p.messages) none)) has

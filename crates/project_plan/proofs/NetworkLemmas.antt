@@ -1,6 +1,6 @@
 -- Whom the plan of a project is made for.
 use Rattle.std.proofs.Common.{◌≡◌, ◌∙◌, ℕ, ◌==◌, Bool, true, false, cond, List, [], ◌∷◌, map, filter_map, Option, Some}
-use Rattle.std.proofs.Common.{None, option_map, option_and_then, refl, sym, ap}
+use Rattle.std.proofs.Common.{None, option_map, option_and_then, refl, sym, ap, subst}
 use Rattle.std.specs.FinMap.{entries, find, get, get-entries}
 use Rattle.std.specs.Cmp.{tied_itself}
 use Rattle.std.specs.List.{cons_option}
@@ -15,7 +15,9 @@ use Rattle.co_project.specs.declared.node.Node.{Node}
 use Rattle.co_project.specs.Project.{Content}
 use Rattle.co_project.specs.Tables.{node_at, text_at}
 use Rattle.pdo_plan.proofs.MadeLemmas.{made_for}
-use Rattle.pdo_plan.specs.Plan.{IsMadeFor}
+use Rattle.pdo_stations.specs.Devices.{devices_of}
+use Rattle.pdo_plan.specs.Plan.{IsMadeFor, plan_of}
+use Rattle.project_edits.specs.Versions.{is_three}
 use Rattle.project_plan.specs.Network.{Member, member_at, member_by, members, plan_of_project, sections_of_members}
 use Rattle.project_plan.specs.Network.{with_sections}
 use Rattle.project_plan.proofs.NamedLemmas.{in_text}
@@ -112,7 +114,10 @@ module _ (project : Content) (id : ℕ) where
       by (Some node) known is = with node known (text_at project.texts node.eds) refl is
 
   -- the plan is made for it
-  pub made_for_member : (m : Member) → member_at project id ≡ Some m → IsMadeFor (plan_of_project project) m.sections id
+  pub made_for_member : (m : Member) → is_three project.version ≡ false → member_at project id ≡ Some m
+      → IsMadeFor (plan_of_project project) m.sections id
   unfolding plan_of_project
-  made_for_member m found = made_for (sections_of_members project) id m.sections (described_at m found)
-      (entries project.messages)
+  made_for_member m old found =
+      subst (λ (b : Bool). IsMadeFor (plan_of (devices_of b (sections_of_members project)) (entries project.messages))
+      m.sections id) (sym old)
+      (made_for (sections_of_members project) id m.sections (described_at m found) (entries project.messages))

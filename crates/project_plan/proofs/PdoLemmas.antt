@@ -35,9 +35,11 @@ use Rattle.pdo_plan.specs.Mapping.{mapped_bytes}
 use Rattle.pdo_plan.specs.Plan.{clean, IsNumbered, IsWithin}
 use Rattle.pdo_plan.proofs.LimitLemmas.{between}
 use Rattle.pdo_links.specs.Order.{IsOfSent, IsOfTaken, IsSentAlone, IsTakenAlone}
-use Rattle.pdo_links.specs.Writes.{write_at, cob_write, taken_type, mapped_writes, mapping_writes, start_write}
-use Rattle.pdo_links.specs.Writes.{time_write, tpdo_writes, rpdo_writes, at_number, by_number, tpdo_of, rpdo_of}
-use Rattle.pdo_links.specs.Writes.{link_writes, node_writes}
+use Rattle.pdo_links.specs.PdoWrites.{write_at, cob_write, taken_type, mapped_writes, mapping_writes}
+use Rattle.pdo_links.specs.Writes.{start_write}
+use Rattle.pdo_links.specs.PdoWrites.{tpdo_of, rpdo_of}
+use Rattle.pdo_links.specs.Writes.{time_write, tpdo_writes, rpdo_writes, at_number, by_number}
+use Rattle.pdo_links.specs.Writes.{link_writes, set_link_writes, node_writes}
 use Rattle.pdo_links.proofs.Numbered.{Sends, Takes, sends, takes}
 use Rattle.pdo_links.proofs.WhoseLemmas.{of_either, of_rpdos, of_tpdos, sent_at, taken_at}
 use Rattle.project_plan.specs.Pdos.{is_to_pdo, to_pdo}
@@ -45,19 +47,19 @@ use Rattle.project_plan.specs.Pdos.{is_to_pdo, to_pdo}
 -- ---- what a test takes
 
 module _ (p : Write → Bool) where
-  none_pass : (ws : List Write) → All (λ w. p w ≡ false) ws → filter p ws ≡ []
+  pub none_pass : (ws : List Write) → All (λ w. p w ≡ false) ws → filter p ws ≡ []
   none_pass [] all = refl
   none_pass (w ∷ ws) all = rw (All-head (λ w. p w ≡ false) w ws all)
       (none_pass ws (All-tail (λ w. p w ≡ false) w ws all))
 
-  all_pass : (ws : List Write) → All (λ w. p w ≡ true) ws → filter p ws ≡ ws
+  pub all_pass : (ws : List Write) → All (λ w. p w ≡ true) ws → filter p ws ≡ ws
   all_pass [] all = refl
   all_pass (w ∷ ws) all = rw (All-head (λ w. p w ≡ true) w ws all)
       (ap (λ (xs : List Write). w ∷ xs) (all_pass ws (All-tail (λ w. p w ≡ true) w ws all)))
 
   module _ (g : ℕ → List Write) where
     -- of none of the numbers
-    none_of_numbers : (first count : ℕ) → ((k : ℕ) → first ≤ k → k < first + count → filter p (g k) ≡ [])
+    pub none_of_numbers : (first count : ℕ) → ((k : ℕ) → first ≤ k → k < first + count → filter p (g k) ≡ [])
         → filter p (flat_map g (range_with_len first count)) ≡ []
     none_of_numbers first zero none = refl
     none_of_numbers first (suc count) none =
@@ -67,7 +69,7 @@ module _ (p : Write → Bool) where
         ∙ none_of_numbers (first + 1) count (λ k low high. none k (omega arith) (omega arith))
 
     -- of one of them
-    one_of_numbers : (n first count : ℕ) → first ≤ n → n < first + count
+    pub one_of_numbers : (n first count : ℕ) → first ≤ n → n < first + count
         → ((k : ℕ) → first ≤ k → k < first + count → (k ≡ n → ⊥) → filter p (g k) ≡ [])
         → filter p (flat_map g (range_with_len first count)) ≡ filter p (g n)
     one_of_numbers n first zero low high others = absurd (omega arith)
@@ -116,7 +118,7 @@ module _ (P : Write → Type 0) where
     mapped_all first (m ∷ ms) = All-cons P (write_at object first (mapped_bytes m))
         (mapped_writes object (first + 1) ms) (each first (mapped_bytes m)) (mapped_all (first + 1) ms)
 
-    mapping_all : (mapping : List Mapped) → All P (mapping_writes object mapping)
+    pub mapping_all : (mapping : List Mapped) → All P (mapping_writes object mapping)
     mapping_all mapping =
         let count : List Write = write_at object 0 (length mapping ∷ []) ∷ [] in
         All-cons P (write_at object 0 (0 ∷ [])) (mapped_writes object 1 mapping ++ count) (each 0 (0 ∷ []))
@@ -177,17 +179,17 @@ module _ (P : Write → Type 0) where
 
 -- ---- objects apart
 
-itself : (object : ℕ) → (object == object) || (object == mapping_object object) ≡ true
+pub itself : (object : ℕ) → (object == object) || (object == mapping_object object) ≡ true
 itself object = grind (arith, nat_tests)
 
-its_mapping : (object : ℕ) → (mapping_object object == object) || (mapping_object object == mapping_object object) ≡ true
+pub its_mapping : (object : ℕ) → (mapping_object object == object) || (mapping_object object == mapping_object object) ≡ true
 its_mapping object = grind (arith, nat_tests)
 
 -- an index is neither of a PDO's two
-abbrev IsApart : ℕ → ℕ → Type 0
+abbrev pub IsApart : ℕ → ℕ → Type 0
 IsApart object index = (index == object) || (index == mapping_object object) ≡ false
 
-apart : (object index : ℕ) → (index ≡ object → ⊥) → (index ≡ object + 0x200 → ⊥) → IsApart object index
+pub apart : (object index : ℕ) → (index ≡ object → ⊥) → (index ≡ object + 0x200 → ⊥) → IsApart object index
 apart object index other outside = grind (arith, nat_tests)
 
 module _ (object : ℕ) where
@@ -267,10 +269,10 @@ not_pdo ss params node none w has = by (is_of_pdos w.index) refl
 module _ (ss : List Section) (params : Texts) (node object : ℕ)
     (none : (place : ℕ × ℕ) → is_of_pdos place.0 ≡ true → get params place ≡ None)
     (low : 0x1400 ≤ object) (high : object + 0x200 ≤ 0x1BFF) where
-  outside : (index : ℕ) → is_between 0x1400 0x1BFF index ≡ false → IsApart object index
+  pub outside : (index : ℕ) → is_between 0x1400 0x1BFF index ≡ false → IsApart object index
   outside index e = grind (arith, nat_tests)
 
-  no_parameters : filter (is_to_pdo object) (parameter_writes ss params node) ≡ []
+  pub no_parameters : filter (is_to_pdo object) (parameter_writes ss params node) ≡ []
   no_parameters =
       none_pass (is_to_pdo object) (parameter_writes ss params node)
       (All-weaker (Contains (parameter_writes ss params node)) (λ w. is_to_pdo object w ≡ false)
@@ -279,7 +281,7 @@ module _ (ss : List Section) (params : Texts) (node object : ℕ)
 
 -- ---- all writes of a node
 
-three : (p : Write → Bool) (xs ys zs : List Write)
+pub three : (p : Write → Bool) (xs ys zs : List Write)
     → filter p (xs ++ (ys ++ zs)) ≡ filter p xs ++ (filter p ys ++ filter p zs)
 three p xs ys zs = filter-append p xs (ys ++ zs) ∙ ap (λ (ws : List Write). filter p xs ++ ws) (filter-append p ys zs)
 
@@ -295,8 +297,8 @@ module _ (plan : List PlannedMessage) (params : Texts) (ss : List Section) (node
   rpdos = by_number (λ (t : Clean × Consumer). rpdo_writes t.0 t.1) (filter_map (rpdo_of node) (clean plan))
 
   pub to_tpdo : (c : Clean) → IsSentAlone (clean plan) node c
-      → to_pdo (tpdo_object c.message.tpdo) (node_writes plan params ss node) ≡ tpdo_writes ss node c
-  unfolding to_pdo node_writes link_writes by_number
+      → to_pdo (tpdo_object c.message.tpdo) (node_writes false plan params ss node) ≡ tpdo_writes ss node c
+  unfolding to_pdo node_writes set_link_writes by_number
   to_tpdo c alone =
       let n : ℕ = c.message.tpdo in
       let object : ℕ = tpdo_object n in
@@ -323,8 +325,8 @@ module _ (plan : List PlannedMessage) (params : Texts) (ss : List Section) (node
       ∙ tpdo_inside object ss node c refl
 
   pub to_rpdo : (c : Clean) (k : Consumer) → IsTakenAlone (clean plan) node c k
-      → to_pdo (rpdo_object k.rpdo) (node_writes plan params ss node) ≡ rpdo_writes c k
-  unfolding to_pdo node_writes link_writes by_number
+      → to_pdo (rpdo_object k.rpdo) (node_writes false plan params ss node) ≡ rpdo_writes c k
+  unfolding to_pdo node_writes set_link_writes by_number
   to_rpdo c k alone =
       let n : ℕ = k.rpdo in
       let object : ℕ = rpdo_object n in
@@ -351,13 +353,13 @@ module _ (plan : List PlannedMessage) (params : Texts) (ss : List Section) (node
 
 -- ---- the writes of PDOs alone
 
-pdo_index : (index : ℕ) → 0x1400 ≤ index → index ≤ 0x1BFF → is_of_pdos index ≡ true
+pub pdo_index : (index : ℕ) → 0x1400 ≤ index → index ≤ 0x1BFF → is_of_pdos index ≡ true
 pdo_index index from to = grind (arith, nat_tests)
 
 pub links_pdo : (plan : List PlannedMessage) (ss : List Section) (node : ℕ)
     → ((c : Clean) → Contains (clean plan) c → IsWithin c)
-    → (w : Write) → Contains (link_writes plan ss node) w → is_of_pdos w.index ≡ true
-unfolding link_writes
+    → (w : Write) → Contains (link_writes false plan ss node) w → is_of_pdos w.index ≡ true
+unfolding set_link_writes
 links_pdo plan ss node within w has =
     ⊎_elim sent taken (of_either (by_number (tpdo_writes ss node) (filter_map (tpdo_of node) (clean plan)))
     (by_number (λ (t : Clean × Consumer). rpdo_writes t.0 t.1) (filter_map (rpdo_of node) (clean plan))) w has)

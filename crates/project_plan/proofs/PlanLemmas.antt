@@ -1,19 +1,23 @@
 -- The plan of messages over the devices of a project's nodes is the plan of the project.
-use Rattle.std.proofs.Common.{◌≡◌, ◌∙◌, ℕ, ◌==◌, Bool, true, false, cond, List, [], ◌∷◌, Option, Some, None, is_some}
+use Rattle.std.proofs.Common.{◌≡◌, ◌∙◌, ◌⊎◌, inl, inr, ℕ, ◌==◌, Bool, true, false, cond, List, [], ◌∷◌, Option, Some, None, is_some}
 use Rattle.std.proofs.Common.{option_map, option_and_then, filter_map, refl, sym, ap}
 use Rattle.std.specs.FinMap.{entries, find, get-entries}
+use Rattle.std.specs.Prelude.{if◌then◌else◌}
 use Rattle.std.specs.List.{cons_option}
+use Rattle.std.specs.Option.{option_map_or}
 use Rattle.std.specs.Map.{lookup}
 use Rattle.std.specs.Ordering.{eq_by_cmp, nat_cmp}
 use Rattle.std.proofs.lemmas.Bool.{eqb-true}
 use Rattle.ini_text.specs.Content.{Section, content_of}
 use Rattle.base.proofs.EachLemmas.{each_found}
+use Rattle.project_edits.specs.Versions.{is_three}
 use Rattle.project_messages.specs.Messages.{is_of_messages}
 use Rattle.co_project.specs.declared.node.Node.{Node}
 use Rattle.co_project.specs.Project.{Content}
 use Rattle.co_project.specs.Sound.{IsNodeOf, IsSound}
 use Rattle.co_project.specs.Tables.{node_at, text_at}
-use Rattle.pdo_stations.specs.Devices.{devices_of}
+use Rattle.eds_device.specs.Entries.{dummy_allowed, entry_at}
+use Rattle.pdo_stations.specs.Devices.{Devices, as_made, devices_of}
 use Rattle.pdo_plan.specs.Plan.{plan_of}
 use Rattle.pdo_plan.proofs.NamedLemmas.{named_alike}
 use Rattle.project_plan.specs.Network.{Member, member_at, plan_of_project, sections_of_members, with_sections}
@@ -78,10 +82,27 @@ module _ (p : Content) (id : ℕ) where
       by None none = unlisted_all none
       by (Some node) known = with node known (text_at p.texts node.eds) refl (eds_there sound node known)
 
+-- the devices by the sections of each number
+abbrev devices_by : Bool → (ℕ → Option (List Section)) → Devices
+devices_by is_three sections = record {
+  entry = λ node place. option_and_then (λ ss. entry_at ss node place.0 place.1) (sections node);
+  dummy = λ node kind. option_map_or (λ ss. dummy_allowed ss kind) (sections node) false;
+  vendor = if is_three then Some (λ node. option_map (λ ss. as_made ss node) (sections node)) else None;
+}
+
+module _ (p : Content) (nodes : List (ℕ × List Section)) (sound : IsSound p) where
+  over : (b : Bool) → ((id : ℕ) → (b ≡ true) ⊎ (is_of_messages id p.messages ≡ true)
+      → lookup (λ n. n == id) nodes ≡ option_map (λ (m : Member). m.sections) (member_at p id))
+      → plan_of (devices_of b nodes) (entries p.messages)
+      ≡ plan_of (devices_of b (sections_of_members p)) (entries p.messages)
+  over true are = ap (λ (f : ℕ → Option (List Section)). plan_of (devices_by true f) (entries p.messages))
+      (λ i id. (are id (inl refl) ∙ sym (looked_up p id sound)) i)
+  over false are = named_alike nodes (sections_of_members p) p.messages
+      (λ id named. are id (inr named) ∙ sym (looked_up p id sound))
+
 pub planned_over_members : (p : Content) (nodes : List (ℕ × List Section)) → IsSound p
-    → ((id : ℕ) → is_of_messages id p.messages ≡ true
+    → ((id : ℕ) → (is_three p.version ≡ true) ⊎ (is_of_messages id p.messages ≡ true)
     → lookup (λ n. n == id) nodes ≡ option_map (λ (m : Member). m.sections) (member_at p id))
-    → plan_of (devices_of nodes) (entries p.messages) ≡ plan_of_project p
+    → plan_of (devices_of (is_three p.version) nodes) (entries p.messages) ≡ plan_of_project p
 unfolding plan_of_project
-planned_over_members p nodes sound are =
-    named_alike nodes (sections_of_members p) p.messages (λ id named. are id named ∙ sym (looked_up p id sound))
+planned_over_members p nodes sound are = over p nodes sound (is_three p.version) are

@@ -34,7 +34,8 @@ use Rattle.pdo_plan.specs.declared.planned_message.PlannedMessage.{PlannedMessag
 use Rattle.pdo_plan.specs.Plan.{clean, IsMadeFor, IsNumbered, IsWithin}
 use Rattle.pdo_links.specs.Order.{IsOfSent, IsOfTaken}
 use Rattle.pdo_links.specs.Tables.{AreMapped}
-use Rattle.pdo_links.specs.Writes.{by_number, link_writes, node_writes, rpdo_of, rpdo_writes, tpdo_of, tpdo_writes}
+use Rattle.pdo_links.specs.PdoWrites.{rpdo_of, tpdo_of}
+use Rattle.pdo_links.specs.Writes.{by_number, link_writes, set_link_writes, node_writes, rpdo_writes, tpdo_writes}
 use Rattle.pdo_links.proofs.Values.{first_of, fits_unsigned, rpdo_taken, second_of, tpdo_taken, IsTaken}
 use Rattle.pdo_links.proofs.WhoseLemmas.{of_either, of_rpdos, of_tpdos}
 use Rattle.std.specs.Prelude.{filter_map}
@@ -75,7 +76,7 @@ module _ (ss : List Section) (node : ℕ) where
 
   module _ (params : Texts) (values : AllByRecursion (HasGood IsLine) ss)
       (lines : (place : ℕ × ℕ) → IfSome (get params place) IsLine) where
-    parameter_given : (w : Write) → Contains (parameter_writes ss params node) w → IsGivenBy w
+    pub parameter_given : (w : Write) → Contains (parameter_writes ss params node) w → IsGivenBy w
     parameter_given w has =
         let behind = nothing_else ss params node w has in
         let text : List ℕ = behind.0 in
@@ -122,7 +123,7 @@ module _ (ss : List Section) (node : ℕ) where
       let contrary : Unsigned width ≡ Characters = sym (unsigned_form kind width e) ∙ is in
       cc
 
-  taken_given : (w : Write) → IsTaken ss node w → IsGivenBy w
+  pub taken_given : (w : Write) → IsTaken ss node w → IsGivenBy w
   taken_given w taken = by (entry_at ss node w.index w.sub) refl taken.takes
     where
       by : (o : Option Entry) → entry_at ss node w.index w.sub ≡ o
@@ -176,8 +177,8 @@ module _ (ss : List Section) (node : ℕ) where
         (rpdo_taken ss node c k ((made c of.1).1 k of.2.1 of.2.2)
         (few_entries (length k.mapping) limits.1) numbers) of.2.3)
 
-    link_given : (w : Write) → Contains (link_writes plan ss node) w → IsGivenBy w
-    unfolding link_writes
+    link_given : (w : Write) → Contains (link_writes false plan ss node) w → IsGivenBy w
+    unfolding set_link_writes
     link_given w has =
         ⊎_elim (λ there. sent_given w (of_tpdos (clean plan) ss node w there))
         (λ there. took_given w (of_rpdos (clean plan) node w there))
@@ -186,10 +187,10 @@ module _ (ss : List Section) (node : ℕ) where
 
     pub all_given : (params : Texts) → AllByRecursion (HasGood IsLine) ss
         → ((place : ℕ × ℕ) → IfSome (get params place) IsLine)
-        → All (λ w. IsGiven ss node (w.index, w.sub) w.bytes) (node_writes plan params ss node)
+        → All (λ w. IsGiven ss node (w.index, w.sub) w.bytes) (node_writes false plan params ss node)
     unfolding node_writes
     all_given params values lines =
-        All-weaker (Contains (node_writes plan params ss node)) IsGivenBy
+        All-weaker (Contains (node_writes false plan params ss node)) IsGivenBy
         (λ w has. ⊎_elim (parameter_given params values lines w) (link_given w)
-        (of_either (parameter_writes ss params node) (link_writes plan ss node) w has))
-        (node_writes plan params ss node) (All-contains_itself (node_writes plan params ss node))
+        (of_either (parameter_writes ss params node) (link_writes false plan ss node) w has))
+        (node_writes false plan params ss node) (All-contains_itself (node_writes false plan params ss node))

@@ -39,8 +39,10 @@ use Rattle.pdo_plan.specs.declared.consumer.Consumer.{Consumer}
 use Rattle.pdo_plan.specs.declared.planned_message.PlannedMessage.{PlannedMessage}
 use Rattle.pdo_plan.specs.Mapping.{mapped_bytes}
 use Rattle.pdo_plan.specs.Plan.{clean, clean_of}
-use Rattle.pdo_links.specs.Writes.{at_number, by_number, cob_write, link_writes, mapped_writes, mapping_writes, node_writes}
-use Rattle.pdo_links.specs.Writes.{rpdo_of, rpdo_writes, start_write, taken_type, time_write, tpdo_of, tpdo_writes, write_at}
+use Rattle.pdo_links.specs.PdoWrites.{cob_write, mapped_writes, mapping_writes}
+use Rattle.pdo_links.specs.Writes.{at_number, by_number, link_writes, set_link_writes, node_writes}
+use Rattle.pdo_links.specs.PdoWrites.{rpdo_of, taken_type, tpdo_of, write_at}
+use Rattle.pdo_links.specs.Writes.{rpdo_writes, start_write, time_write, tpdo_writes}
 use Rattle.pdo_links.proofs.Numbered.{Sends, Takes, sends, takes}
 use Rattle.project_plan.specs.Values.{after_writes, number_among}
 use Rattle.project_plan.specs.Wanted.{cob_id_of, is_wanted, parameter_value, value_given, values_given, wanted_value}
@@ -63,11 +65,11 @@ itself q = (eq_by_cmp_equiv places_total).refl q
 -- ---- writes to other objects
 
 -- no write is to this object
-abbrev IsApart : ℕ → List Write → Type 0
+abbrev pub IsApart : ℕ → List Write → Type 0
 IsApart index ws = All (λ w. w.index ≡ index → ⊥) ws
 
 -- they leave its values alone
-left_alone : (values : Values) (q : ℕ × ℕ) (ws : List Write) → IsApart q.0 ws
+pub left_alone : (values : Values) (q : ℕ × ℕ) (ws : List Write) → IsApart q.0 ws
     → get (after_writes values ws) q ≡ get values q
 left_alone values q [] apart = refl
 left_alone values q (w ∷ ws) apart =
@@ -473,10 +475,10 @@ module _ (v : ℕ × ℕ → Option (List ℕ)) where
 
 module _ (params : Texts) (ss : List Section) (node : ℕ) where
   -- the defaults, and over them the writes of the parameters
-  abbrev set_up : Values
+  abbrev pub set_up : Values
   set_up = after_writes (defaults_of ss node) (parameter_writes ss params node)
 
-  given_is : (q : ℕ × ℕ) → is_wanted q ≡ true → get (values_given ss params node) q ≡ get set_up q
+  pub given_is : (q : ℕ × ℕ) → is_wanted q ≡ true → get (values_given ss params node) q ≡ get set_up q
   unfolding values_given defaults_of parameter_writes
   given_is q wanted =
       get_given (wanted_value ss params node) (pairs_of ss) q
@@ -496,7 +498,7 @@ module _ (params : Texts) (ss : List Section) (node : ℕ) where
 
 module _ (plan : List PlannedMessage) (params : Texts) (ss : List Section) (node : ℕ) where
   abbrev pub whole : Values
-  whole = after_writes (defaults_of ss node) (node_writes plan params ss node)
+  whole = after_writes (defaults_of ss node) (node_writes false plan params ss node)
 
   abbrev pub wanted : Values
   wanted = with_tpdos (values_given ss params node) node plan
@@ -508,7 +510,7 @@ module _ (plan : List PlannedMessage) (params : Texts) (ss : List Section) (node
   rpdos = by_number (λ t. rpdo_writes t.0 t.1) (filter_map (rpdo_of node) (clean plan))
 
   in_turn : whole ≡ after_writes (after_writes (set_up params ss node) tpdos) rpdos
-  unfolding node_writes link_writes
+  unfolding node_writes set_link_writes
   in_turn = written-append (defaults_of ss node) (parameter_writes ss params node) (tpdos ++ rpdos)
       ∙ written-append (set_up params ss node) tpdos rpdos
 

@@ -4,6 +4,7 @@ use Rattle.std.specs.Prelude.{ℕ, List, filter_map, map, Option, option_map, op
 use Rattle.std.specs.FinMap.{entries}
 use Rattle.ini_text.specs.Content.{Content as DataSheet, Section, content_of}
 use Rattle.concise_dcf.specs.declared.write.Write.{Write}
+use Rattle.project_edits.specs.Versions.{is_three}
 use Rattle.co_project.specs.declared.node.Node.{Node}
 use Rattle.co_project.specs.Project.{Content}
 use Rattle.co_project.specs.Tables.{node_at, text_at}
@@ -46,10 +47,11 @@ members project = filter_map (member_by project) (entries project.nodes)
 unfoldable pub sections_of_members : Content → List (ℕ × List Section)
 sections_of_members project = map (λ e. (e.0, e.1.sections)) (members project)
 
--- THE PLAN of a project's messages, over the devices of its nodes
+-- THE PLAN of a project's messages, over the devices of its nodes, by the rules of its version
 unfoldable pub plan_of_project : Content → List PlannedMessage
-plan_of_project project = plan_of (devices_of (sections_of_members project)) (entries project.messages)
+plan_of_project project = plan_of (devices_of (is_three project.version) (sections_of_members project))
+    (entries project.messages)
 
 -- THE WRITES of the node of a number: those of its parameters, and what the plan gives it
 unfoldable pub writes_of : Content → Member → ℕ → List Write
-writes_of project m id = node_writes (plan_of_project project) m.node.params m.sections id
+writes_of project m id = node_writes (is_three project.version) (plan_of_project project) m.node.params m.sections id

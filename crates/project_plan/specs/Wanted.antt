@@ -1,5 +1,5 @@
 -- The values of a node that its diagnostics want once it is configured, and no others.
-use Rattle.std.specs.Prelude.{ℕ, ◌+◌, ◌==◌, ◌&&◌, ◌||◌, Bool, if◌then◌else◌, List, [], ◌∷◌, Option, None}
+use Rattle.std.specs.Prelude.{ℕ, ◌+◌, ◌==◌, ◌&&◌, ◌||◌, Bool, if◌then◌else◌, List, [], ◌∷◌, filter, Option, None}
 use Rattle.std.specs.Prelude.{is_some, option_and_then}
 use Rattle.std.specs.FinMap.{from_entries, insert}
 use Rattle.std.specs.List.{list_any}
@@ -19,7 +19,12 @@ use Rattle.cia301.specs.PdoObjects.{is_communication_object, is_of_tpdos, tpdo_o
 use Rattle.pdo_plan.specs.declared.clean.Clean.{Clean}
 use Rattle.pdo_plan.specs.declared.planned_message.PlannedMessage.{PlannedMessage}
 use Rattle.pdo_plan.specs.Plan.{clean_of}
-use Rattle.pdo_links.specs.Writes.{tpdo_of}
+use Rattle.concise_dcf.specs.Writes.{place_of}
+use Rattle.pdo_links.specs.PdoWrites.{tpdo_of}
+use Rattle.pdo_links.specs.VendorWrites.{vendor_link_writes}
+use Rattle.pdo_stations.specs.declared.as_made.AsMade.{AsMade}
+use Rattle.pdo_stations.specs.Devices.{as_made}
+use Rattle.project_plan.specs.Values.{after_writes}
 use Rattle.project_plan.specs.Network.{Member}
 use Rattle.cia301.specs.Limits.{is_pdo_number}
 
@@ -65,6 +70,11 @@ with_tpdos values node [] = values
 with_tpdos values node (m ∷ ms) = option_map_or (with_tpdo (with_tpdos values node ms))
     (option_and_then (tpdo_of node) (clean_of m.outcome)) (with_tpdos values node ms)
 
+-- in version 3 over them the COB-IDs of TPDOs among what the plan writes to the PDOs of a node
+abbrev pub with_vendor_tpdos : Values → List PlannedMessage → AsMade → ℕ → Values
+with_vendor_tpdos values plan device node =
+    after_writes values (filter (λ w. is_tpdo_cob_id (place_of w)) (vendor_link_writes plan device node))
+
 -- a node sends a message of a plan, if that is clean
 abbrev pub is_sent_by : ℕ → PlannedMessage → Bool
 is_sent_by node m = is_some (option_and_then (tpdo_of node) (clean_of m.outcome))
@@ -73,6 +83,8 @@ is_sent_by node m = is_some (option_and_then (tpdo_of node) (clean_of m.outcome)
 abbrev pub sends : List PlannedMessage → ℕ → Bool
 sends plan node = list_any (is_sent_by node) plan
 
--- the values that are wanted of a node once it is configured by a plan
-abbrev pub wanted_by : List PlannedMessage → ℕ × Member → Values
-wanted_by plan e = with_tpdos (values_given e.1.sections e.1.node.params e.0) e.0 plan
+-- the values that are wanted of a node once it is configured by a plan, by the rules of version 3 or not
+abbrev pub wanted_by : Bool → List PlannedMessage → ℕ × Member → Values
+wanted_by is_three plan e =
+    let given = values_given e.1.sections e.1.node.params e.0 in
+    if is_three then with_vendor_tpdos given plan (as_made e.1.sections e.0) e.0 else with_tpdos given e.0 plan

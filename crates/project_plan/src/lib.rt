@@ -23,4 +23,4 @@ pub use named::Named;
 pub use node_writes::NodeWrites;
 pub use numbers::{unsigned_8, unsigned_16, unsigned_32};
 pub use sheet_entries::{SheetEntries, sheet_of};
-pub use wanted::{is_tpdo_cob_id, sends, values_given, wanted_values};
+pub use wanted::{is_tpdo_cob_id, sends, values_given, vendor_wanted_values, wanted_values};

@@ -1,11 +1,13 @@
 //! The values of a node that its diagnostics want once it is configured, and no others.
-ghost use Rattle.std.specs.Prelude.{◌≡◌, ◌≤◌, ◌+◌, IfOk, IfSome, OnOk, length};
+ghost use Rattle.std.specs.Prelude.{◌≡◌, ◌≤◌, ◌+◌, All, IfOk, IfSome, OnOk, filter, length};
 ghost use Rattle.std.specs.FinMap as map;
 ghost use Rattle.std.specs.Option.{option_and_then, option_map_or};
 ghost use Rattle.cia301.specs.CobIds.{no_rtr_bit};
 ghost use Rattle.co_values.specs.Values.{longest_value};
-ghost use Rattle.pdo_links.specs.Writes.{tpdo_of};
+ghost use Rattle.concise_dcf.specs.Writes.{IsSized, place_of};
+ghost use Rattle.pdo_links.specs.PdoWrites.{tpdo_of};
 ghost use Rattle.pdo_plan.specs.Plan.{clean_of};
+ghost use Rattle.project_plan.specs.Values.{after_writes};
 ghost use Rattle.project_plan.specs.Wanted.{is_tpdo_cob_id, is_wanted, parameter_value, value_given, wanted_value};
 ghost use Rattle.project_plan.specs.Wanted.{is_sent_by, sends, values_given, with_tpdo, with_tpdos};
 
@@ -13,6 +15,7 @@ use base::Octets;
 use byteorder::{ByteOrder, LittleEndian};
 use cia301::{CobId, is_communication_object, is_of_tpdos, tpdo_object};
 use co_dict::Dict;
+use concise_dcf::Write;
 use eds_device::DataSheet;
 use node_parameters::{Params, judge, parameter_text};
 use pdo_plan::{Clean, Outcome, Plan, PlannedMessage};
@@ -187,5 +190,35 @@ pub fn wanted_values(given: &Dict, plan: &Plan, id: u8) -> Result<Dict, AllocErr
 {
     let mut values = given.copy()?;
     write_messages(&mut values, plan.messages(), id)?;
+    Ok(values)
+}
+
+/// Sets the COB-IDs of TPDOs among writes, each in turn.
+fn write_tpdo_cob_ids(values: &mut Dict, writes: &[Write]) -> Result<(), AllocError>
+    requires { All IsSized writes.now }
+    ensures { OnOk result (values.new
+        ≡ after_writes values.old (filter (λ w. is_tpdo_cob_id (place_of w)) writes.now)) }
+{
+    let mut rest = writes;
+    while let [write, after @ ..] = rest {
+        if is_tpdo_cob_id(write.index, write.sub) {
+            values.write(write.index, write.sub, write.bytes.as_slice())?;
+        }
+        rest = after;
+    }
+    Ok(())
+}
+
+/// The values that are wanted of a node once it is configured by a plan of version 3, by those that `values_given` finds
+/// and what the plan writes to the node's PDOs: each is as among all its values.
+///
+/// Takes time by the number of writes, memory by that of the TPDOs that are switched.
+pub fn vendor_wanted_values(given: &Dict, writes: &[Write]) -> Result<Dict, AllocError>
+    requires { All IsSized writes.now }
+    ensures { IfOk result (λ values. values
+        ≡ after_writes given.now (filter (λ w. is_tpdo_cob_id (place_of w)) writes.now)) }
+{
+    let mut values = given.copy()?;
+    write_tpdo_cob_ids(&mut values, writes)?;
     Ok(values)
 }

@@ -9,7 +9,7 @@ use Rattle.project_messages.specs.declared.linked.Linked.{Linked}
 use Rattle.project_edits.specs.Lines.{text_of}
 use Rattle.co_project.specs.Project.{Content}
 use Rattle.project_script.specs.Script.{counter_edits, edits, event_edit, message_edits, node_edits, param_edits}
-use Rattle.project_script.specs.Script.{script, settings, sink_edit, source_edit, start_edits, text_edit}
+use Rattle.project_script.specs.Script.{receive_edit, script, settings, sink_edit, source_edit, start_edits, text_edit}
 use Rattle.project_script.specs.Script.{version_edits}
 
 -- the settings are the version, the bit rate, the horizon, the manager and the SYNC counter
@@ -27,19 +27,20 @@ settings_parts p =
         ≡ flat_map text_of v ++ text_of b ++ text_of h ++ text_of m ++ flat_map text_of c
     parts v b h m c = simp (flat_map-append, append_assoc) refl
 
--- a message is its own line, that of its SYNC start value, and those of its sources and sinks
+-- a message is its own line, that of its SYNC start value, and those of its sources, sinks and receives
 pub linked_parts : (name : List ℕ) (l : Linked)
     → flat_map text_of (message_edits (name, l))
     ≡ text_of (edit.Message name l.message) ++ flat_map text_of (start_edits name l.start)
     ++ flat_map text_of (map (source_edit name) l.sources) ++ flat_map text_of (map (sink_edit name) l.sinks)
+    ++ flat_map text_of (map (receive_edit name) l.receives)
 linked_parts name l =
     parts (edit.Message name l.message) (start_edits name l.start) (map (source_edit name) l.sources)
-    (map (sink_edit name) l.sinks)
+    (map (sink_edit name) l.sinks) (map (receive_edit name) l.receives)
   where
-    parts : (m : Edit) (a b c : List Edit)
-        → flat_map text_of (m ∷ (a ++ b ++ c)) ≡ text_of m ++ flat_map text_of a ++ flat_map text_of b
-        ++ flat_map text_of c
-    parts m a b c = simp (flat_map-append, append_assoc) refl
+    parts : (m : Edit) (a b c d : List Edit)
+        → flat_map text_of (m ∷ (a ++ b ++ c ++ d)) ≡ text_of m ++ flat_map text_of a ++ flat_map text_of b
+        ++ flat_map text_of c ++ flat_map text_of d
+    parts m a b c d = simp (flat_map-append, append_assoc) refl
 
 -- a message is written before others
 pub message_written : (out new : List ℕ) (m : List ℕ × Linked) (others : List (List ℕ × Linked))

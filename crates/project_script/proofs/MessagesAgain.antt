@@ -15,16 +15,18 @@ use Rattle.base.proofs.EntryLemmas.{entries_again, put_entries}
 use Rattle.base.proofs.TableLemmas.{put_there, put_twice}
 use Rattle.project_messages.specs.declared.linked.Linked.{Linked}
 use Rattle.project_messages.specs.declared.message.Message.{Message}
-use Rattle.project_messages.specs.Messages.{with_changed, is_full_for, linked_to, name_cmp, seat_cmp, with_sink, with_source}
+use Rattle.project_messages.specs.declared.receive.Receive.{Receive}
+use Rattle.project_messages.specs.Messages.{with_changed, is_full_for, linked_to, name_cmp, seat_cmp, with_receive, with_sink}
+use Rattle.project_messages.specs.Messages.{with_source}
 use Rattle.project_messages.specs.Messages.{with_start}
-use Rattle.project_messages.specs.Messages.{AreSinks, AreSources, IsLinked, Named}
+use Rattle.project_messages.specs.Messages.{AreReceives, AreSinks, AreSources, IsLinked, Named}
 use Rattle.project_messages.proofs.LimitLemmas.{seats_exact, seats_total}
 use Rattle.project_edits.specs.declared.edit.Edit.TheVariants as edit
-use Rattle.project_edits.specs.declared.fault.EditFault.TheVariants.{Limit, Unknown}
+use Rattle.project_edits.specs.declared.fault.EditFault.TheVariants.{Limit, Range, Unknown}
 use Rattle.project_edits.specs.Accepts.{unless}
 use Rattle.co_project.specs.Project.{Content, accept, accept_all}
-use Rattle.project_script.specs.Script.{message_edits, sink_edit, source_edit, start_edits}
-use Rattle.co_project.specs.Sound.{IsMessageOf}
+use Rattle.project_script.specs.Script.{message_edits, receive_edit, sink_edit, source_edit, start_edits}
+use Rattle.co_project.specs.Sound.{IsMessageOf, IsReceiveOf}
 use Rattle.project_script.proofs.EditsInTurn.{in_turn, one_then, room, whole_small}
 use Rattle.project_script.proofs.ToCome.{AreToCome, first_to_come, others_to_come}
 
@@ -51,7 +53,7 @@ module _ (p : Content) (messages : Named) (name : List ℕ) where
       (linked_there l)
       ∙ put_twice nat_list_cmp_total exact_bytes messages name l (change l)
 
-  -- a new message has the start value 0, no sources and no sinks
+  -- a new message has the start value 0, no sources, no sinks and no receives
   message_taken : (m : Message) → contains_key p.nodes m.node ≡ true → is_full_for messages name ≡ false
       → get messages name ≡ None
       → accept (with_messages p messages) (edit.Message name m) ≡ Ok (with_linked (linked_to None m))
@@ -124,25 +126,55 @@ module _ (p : Content) (messages : Named) (name : List ℕ) where
       (sink_taken l e (All-head (λ s. contains_key p.nodes s.0.1 ≡ true) e back there))
       (sinks_again (with_sink e.0.0 e.0.1 e.1 l) back (All-tail (λ s. contains_key p.nodes s.0.1 ≡ true) e back there))
 
-  -- a new message, its SYNC start value, its sources and its sinks
+  -- one receive more of a node that is there, in a version that knows receives
+  receive_taken : (l : Linked) (e : ℕ × Receive) → IsReceiveOf p e
+      → accept (with_linked l) (receive_edit name e) ≡ Ok (with_linked (with_receive e.0 e.1 l))
+  unfolding accept
+  receive_taken l e is =
+      let change : Linked → Linked = with_receive e.0 e.1 in
+      let put : Named = insert messages name l in
+      ap (λ t. unless ((not t, Range) ∷ (not (contains_key put name) || not (contains_key p.nodes e.0), Unknown) ∷ [])
+      (with_messages p (with_changed change put name))) is.0
+      ∙ ap (λ o. unless ((not (is_some o) || not (contains_key p.nodes e.0), Unknown) ∷ [])
+      (with_messages p (with_changed change put name))) (linked_there l)
+      ∙ ap (λ t. unless ((not t, Unknown) ∷ []) (with_messages p (with_changed change put name))) is.1
+      ∙ ap (λ m. Ok (with_messages p m)) (linked_changed change l)
+
+  -- the receives that are still to come
+  receives_again : (l : Linked) (back : List (ℕ × Receive)) → All (IsReceiveOf p) back
+      → accept_all (Ok (with_linked l)) (map (receive_edit name) back)
+      ≡ Ok (with_linked (record l { receives = put_entries nat_cmp nat_cmp_total exact_unsigned l.receives back }))
+  unfolding accept_all
+  receives_again l [] are = refl
+  receives_again l (e ∷ back) are =
+      one_then (with_linked l) (receive_edit name e) (map (receive_edit name) back) (with_linked (with_receive e.0 e.1 l))
+      (receive_taken l e (All-head (IsReceiveOf p) e back are))
+      (receives_again (with_receive e.0 e.1 l) back (All-tail (IsReceiveOf p) e back are))
+
+  -- a new message, its SYNC start value, its sources, its sinks and its receives
   message_made : (l : Linked) → IsMessageOf p name l → is_full_for messages name ≡ false → get messages name ≡ None
       → accept_all (Ok (with_messages p messages)) (message_edits (name, l)) ≡ Ok (with_linked l)
-  unfolding IsMessageOf IsLinked AreSources AreSinks
+  unfolding IsMessageOf IsLinked AreSources AreSinks AreReceives
   message_made l is free new =
       let sources = map (source_edit name) l.sources in
       let sinks = map (sink_edit name) l.sinks in
+      let receives = map (receive_edit name) l.receives in
       let start = start_edits name l.start in
       let sent : Linked = linked_to None l.message in
       let counting : Linked = with_start l.start sent in
       let carrying : Linked = record counting { sources = l.sources } in
-      one_then (with_messages p messages) (edit.Message name l.message) (start ++ sources ++ sinks) (with_linked sent)
-      (message_taken l.message is.2 free new)
+      let taken : Linked = record carrying { sinks = l.sinks } in
+      one_then (with_messages p messages) (edit.Message name l.message) (start ++ sources ++ sinks ++ receives)
+      (with_linked sent) (message_taken l.message is.2 free new)
+      (in_turn (Ok (with_linked sent)) (start ++ sources ++ sinks) receives (with_linked taken)
       (in_turn (Ok (with_linked sent)) (start ++ sources) sinks (with_linked carrying)
       (in_turn (Ok (with_linked sent)) start sources (with_linked counting) (start_again sent l.start refl)
       (sources_again counting l.sources ∙ ap (λ es. Ok (with_linked (record counting { sources = es })))
       (entries_again nat_cmp nat_cmp_total exact_unsigned l.sources is.1.2.0)))
       (sinks_again carrying l.sinks is.3 ∙ ap (λ es. Ok (with_linked (record carrying { sinks = es })))
       (entries_again seat_cmp seats_total seats_exact l.sinks is.1.3.0)))
+      (receives_again taken l.receives is.4 ∙ ap (λ es. Ok (with_linked (record taken { receives = es })))
+      (entries_again nat_cmp nat_cmp_total exact_unsigned l.receives is.1.4.0)))
 
 -- ---- all messages
 

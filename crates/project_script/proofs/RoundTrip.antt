@@ -16,12 +16,13 @@ use Rattle.std.specs.FinMap.Entries.{below_all}
 use Rattle.co_scenario.specs.declared.timed_event.TimedEvent.{TimedEvent}
 use Rattle.co_scenario.specs.Scenario.{Events}
 use Rattle.base.proofs.TableLemmas.{put_there, put_twice}
-use Rattle.project_edits.specs.declared.fault.EditFault.TheVariants.{Range, Unknown, Taken, Limit}
+use Rattle.project_edits.specs.declared.fault.EditFault.TheVariants.{InUse, Range, Unknown, Taken, Limit}
 use Rattle.project_edits.specs.declared.script_version.ScriptVersion.{ScriptVersion}
-use Rattle.project_edits.specs.declared.script_version.ScriptVersion.TheVariants.{One, Two}
+use Rattle.project_edits.specs.declared.script_version.ScriptVersion.TheVariants.{One, Two, Three}
 use Rattle.project_edits.specs.declared.edit.Edit.{Edit}
 use Rattle.project_edits.specs.declared.edit.Edit.TheVariants as edit
 use Rattle.project_edits.specs.Accepts.{unless}
+use Rattle.project_messages.specs.Messages.{has_receives, have_receives}
 use Rattle.project_edits.specs.Versions.{is_one}
 use Rattle.co_dict.proofs.PlaceLemmas.{places_exact, places_total}
 use Rattle.node_parameters.specs.Params.{Texts as Params, is_full_for}
@@ -349,12 +350,18 @@ set_up p = record {
   events = empty;
 }
 
+-- no message of the first project has a receive
+none_receives : have_receives empty ≡ false
+none_receives = none_pass nat_list_cmp_total exact_bytes (λ e. has_receives e.1) empty
+    (each_empty (λ _ l. has_receives l ≡ false) empty refl)
+
 -- the version
 version_again : (version : ScriptVersion)
     → accept_all (Ok first) (version_edits version) ≡ Ok (record first { version = version })
 unfolding accept_all accept
 version_again One = refl
-version_again Two = refl
+version_again Two = ap (λ t. accept_all (unless ((t, InUse) ∷ []) (record first { version = Two })) []) none_receives
+version_again Three = refl
 
 -- the bit rate, the horizon and the manager
 numbers_again : (p : Content) (q : Content) → q.nodes ≡ empty

@@ -10,7 +10,7 @@ use Rattle.std.proofs.lemmas.Map.Lookups.{exact_unsigned, exact_bytes}
 use Rattle.co_dict.proofs.PlaceLemmas.{places_exact, places_total}
 use Rattle.co_scenario.specs.declared.timed_event.TimedEvent.{TimedEvent}
 use Rattle.project_messages.specs.declared.linked.Linked.{Linked}
-use Rattle.project_messages.specs.Messages.{is_start, AreSinks, AreSources, IsLinked, IsSink}
+use Rattle.project_messages.specs.Messages.{is_start, AreReceives, AreSinks, AreSources, IsLinked, IsReceive, IsSink}
 use Rattle.project_edits.specs.declared.edit.Edit.{Edit}
 use Rattle.project_edits.specs.declared.edit.Edit.TheVariants as edit
 use Rattle.project_edits.specs.Eds.{IsEds}
@@ -18,18 +18,18 @@ use Rattle.project_edits.specs.Edits.{IsEdit, IsSetting}
 use Rattle.project_edits.specs.Forms.{is_name, is_sync_counter}
 use Rattle.cia301.specs.Limits.{is_node_number}
 use Rattle.project_edits.specs.declared.script_version.ScriptVersion.{ScriptVersion}
-use Rattle.project_edits.specs.declared.script_version.ScriptVersion.TheVariants.{One, Two}
+use Rattle.project_edits.specs.declared.script_version.ScriptVersion.TheVariants.{One, Two, Three}
 use Rattle.co_project.specs.declared.node.Node.{Node}
 use Rattle.co_project.specs.Project.{Content}
 use Rattle.project_script.specs.Script.{counter_edits, edits, event_edit, message_edits, need_edits, node_edits}
-use Rattle.project_script.specs.Script.{param_edit, param_edits, settings, sink_edit, source_edit, start_edits}
+use Rattle.project_script.specs.Script.{param_edit, param_edits, receive_edit, settings, sink_edit, source_edit, start_edits}
 use Rattle.project_script.specs.Script.{text_edit, version_edits}
 use Rattle.co_project.specs.Sound.{AreTexts, AreParams, IsNodeOf, IsMessageOf, IsEventOf, IsSound}
 use Rattle.base.proofs.EachLemmas.{all_entries}
 
 module _ {X Y : Type 0} (P : Y → Type 0) (f : X → List Y) where
   -- what holds of each element of each list holds of each of them all
-  All-flat_map : (xs : List X) → All (λ x. All P (f x)) xs → All P (flat_map f xs)
+  pub All-flat_map : (xs : List X) → All (λ x. All P (f x)) xs → All P (flat_map f xs)
   All-flat_map [] h = All-nil P
   All-flat_map (x ∷ xs) h = All-append P (f x) (flat_map f xs) (All-head (λ y. All P (f y)) x xs h)
       (All-flat_map xs (All-tail (λ y. All P (f y)) x xs h))
@@ -72,20 +72,23 @@ the_start_edits : (name : List ℕ) (n : ℕ) → is_name name ≡ true → is_s
 unfolding IsEdit
 the_start_edits name n named fits = none_or (n == 0) (edit.Start name n) (named, fits)
 
--- those of a message, its SYNC start value, its sources and its sinks
+-- those of a message, its SYNC start value, its sources, its sinks and its receives
 the_message_edits : (p : Content) (name : List ℕ) (l : Linked) → IsMessageOf p name l
     → All IsEdit (message_edits (name, l))
-unfolding IsMessageOf IsLinked AreSources AreSinks IsEdit
+unfolding IsMessageOf IsLinked AreSources AreSinks AreReceives IsEdit
 the_message_edits p name l is =
     let start = start_edits name l.start in
     let sources = map (source_edit name) l.sources in
     let sinks = map (sink_edit name) l.sinks in
-    All-cons IsEdit (edit.Message name l.message) (start ++ sources ++ sinks) (is.0, is.1.0)
-    (All-append IsEdit (start ++ sources) sinks
+    let receives = map (receive_edit name) l.receives in
+    All-cons IsEdit (edit.Message name l.message) (start ++ sources ++ sinks ++ receives) (is.0, is.1.0)
+    (All-append IsEdit (start ++ sources ++ sinks) receives (All-append IsEdit (start ++ sources) sinks
     (All-append IsEdit start sources (the_start_edits name l.start is.0 is.1.1)
     (All-map IsEdit (source_edit name) l.sources (λ k d within. (is.0, is.1.2.1 k d within, is.1.2.2 k d within))))
     (All-map IsEdit (sink_edit name) l.sinks (All-weaker IsSink (λ s. IsEdit (sink_edit name s))
     (λ s sink. (is.0, sink.0, sink.1, sink.2)) l.sinks is.1.3.1)))
+    (All-map IsEdit (receive_edit name) l.receives (All-weaker IsReceive (λ r. IsEdit (receive_edit name r))
+    (λ r receive. (is.0, receive.0, receive.1, receive.2)) l.receives is.1.4.1)))
 
 -- that of an event
 the_event_edit : (p : Content) (number : ℕ) (e : TimedEvent) → IsEventOf p number e → IsEdit (event_edit (number, e))
@@ -97,6 +100,7 @@ the_version_edits : (version : ScriptVersion) → All IsEdit (version_edits vers
 unfolding IsEdit
 the_version_edits One = All-nil IsEdit
 the_version_edits Two = All-cons IsEdit (edit.Version Two) [] tt (All-nil IsEdit)
+the_version_edits Three = All-cons IsEdit (edit.Version Three) [] tt (All-nil IsEdit)
 
 -- that of the SYNC counter
 the_counter_edits : (n : ℕ) → is_sync_counter n ≡ true → All IsEdit (counter_edits n)

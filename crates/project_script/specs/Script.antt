@@ -4,10 +4,11 @@ use Rattle.std.specs.List.{flat_map}
 use Rattle.std.specs.FinMap.{entries}
 use Rattle.co_scenario.specs.declared.timed_event.TimedEvent.{TimedEvent}
 use Rattle.project_edits.specs.declared.script_version.ScriptVersion.{ScriptVersion}
-use Rattle.project_edits.specs.declared.script_version.ScriptVersion.TheVariants.{One, Two}
+use Rattle.project_edits.specs.declared.script_version.ScriptVersion.TheVariants.{One, Two, Three}
 use Rattle.project_edits.specs.declared.edit.Edit.{Edit}
 use Rattle.project_edits.specs.declared.edit.Edit.TheVariants as edit
 use Rattle.project_messages.specs.declared.linked.Linked.{Linked}
+use Rattle.project_messages.specs.declared.receive.Receive.{Receive}
 use Rattle.project_edits.specs.Lines.{text_of}
 use Rattle.co_project.specs.declared.node.Node.{Node}
 use Rattle.co_project.specs.Project.{Content}
@@ -16,6 +17,7 @@ use Rattle.co_project.specs.Project.{Content}
 abbrev pub version_edits : ScriptVersion → List Edit
 version_edits One = []
 version_edits Two = edit.Version Two ∷ []
+version_edits Three = edit.Version Three ∷ []
 
 -- the last number of the SYNC counter, where there is one
 abbrev pub counter_edits : ℕ → List Edit
@@ -50,22 +52,26 @@ source_edit name e = edit.Source name e.0 e.1.0 e.1.1
 abbrev pub sink_edit : List ℕ → (ℕ × ℕ) × (ℕ × ℕ) → Edit
 sink_edit name e = edit.Sink name e.0.0 e.0.1 e.1.0 e.1.1
 
+abbrev pub receive_edit : List ℕ → ℕ × Receive → Edit
+receive_edit name e = edit.Receive name e.0 e.1.rpdo e.1.event
+
 -- the SYNC start value of a message, where it has one
 abbrev pub start_edits : List ℕ → ℕ → List Edit
 start_edits name start = if start == 0 then [] else edit.Start name start ∷ []
 
--- a message, its SYNC start value, its sources by position, and its sinks by position and node
+-- a message, its SYNC start value, its sources by position, its sinks by position and node, and its receives by node
 abbrev pub message_edits : List ℕ × Linked → List Edit
 message_edits e =
     edit.Message e.0 e.1.message
-    ∷ (start_edits e.0 e.1.start ++ map (source_edit e.0) e.1.sources ++ map (sink_edit e.0) e.1.sinks)
+    ∷ (start_edits e.0 e.1.start ++ map (source_edit e.0) e.1.sources ++ map (sink_edit e.0) e.1.sinks
+    ++ map (receive_edit e.0) e.1.receives)
 
 abbrev pub event_edit : ℕ × TimedEvent → Edit
 event_edit e = edit.Event e.0 e.1
 
 -- the edits that make a project of the first one: its settings, the texts by name, the nodes by number, their
--- parameters by node and entry, the messages by name, each with its start value, its sources and its sinks, and the
--- events by number
+-- parameters by node and entry, the messages by name, each with its start value, its sources, its sinks and its
+-- receives, and the events by number
 unfoldable pub edits : Content → List Edit
 edits p =
     settings p ++ map text_edit (entries p.texts) ++ flat_map node_edits (entries p.nodes) ++ flat_map param_edits (entries p.nodes)

@@ -6,17 +6,17 @@ ghost use Rattle.project_edits.specs.Lines.{text_of};
 ghost use Rattle.project_messages.specs.Messages.{IsLinked};
 ghost use Rattle.co_project.specs.Sound.{IsSound};
 ghost use Rattle.project_script.specs.Script.{counter_edits, event_edit, message_edits, need_edits, node_edits};
-ghost use Rattle.project_script.specs.Script.{param_edit, param_edits, script, settings, sink_edit, source_edit};
+ghost use Rattle.project_script.specs.Script.{param_edit, param_edits, receive_edit, script, settings, sink_edit, source_edit};
 ghost use Rattle.project_script.specs.Script.{start_edits, text_edit, version_edits};
 
 use co_project::{Node, Params, Project};
 use co_scenario::Script;
 use project_edits::{
     ScriptVersion, write_bitrate, write_eds, write_event, write_horizon, write_manager,
-    write_message, write_need, write_node, write_param, write_sink, write_source, write_start,
-    write_sync_counter, write_version,
+    write_message, write_need, write_node, write_param, write_receive, write_sink, write_source,
+    write_start, write_sync_counter, write_version,
 };
-use project_messages::{Linked, Messages, Sinks, Sources};
+use project_messages::{Linked, Messages, Receives, Sinks, Sources};
 use std::alloc::{AllocError, Global};
 
 /// Writes the command of the version, where it isn't that of the first project.
@@ -29,7 +29,7 @@ fn write_version_set(
 {
     match version {
         ScriptVersion::One => Ok(()),
-        ScriptVersion::Two => write_version(out, alloc, version),
+        ScriptVersion::Two | ScriptVersion::Three => write_version(out, alloc, version),
     }
 }
 
@@ -168,7 +168,24 @@ fn write_sinks(
     Ok(())
 }
 
-/// Writes the commands that make a message with its SYNC start value, its sources and its sinks.
+/// Writes the commands that make the receives of a message, by node.
+fn write_receives(
+    out: &mut Vec<u8>,
+    alloc: Global,
+    name: &[u8],
+    receives: &Receives,
+) -> Result<(), AllocError>
+    ensures { OnOk result (out.new.items
+        ≡ out.old.items ++ flat_map text_of (map (receive_edit name.now) receives.now)) }
+{
+    for (node, receive) in receives.iter() {
+        write_receive(out, alloc, name, *node, *receive)?;
+    }
+    Ok(())
+}
+
+/// Writes the commands that make a message with its SYNC start value, its sources, its sinks and its
+/// receives.
 #[tactic(auto, using(crate::proofs::LineLemmas::linked_parts), unfolding(project_messages::specs::Messages::IsLinked, project_messages::specs::Messages::IsMessage))]
 fn write_linked(
     out: &mut Vec<u8>,
@@ -182,7 +199,8 @@ fn write_linked(
     write_message(out, alloc, name, &linked.message)?;
     write_start_set(out, alloc, name, linked.start)?;
     write_sources(out, alloc, name, &linked.sources)?;
-    write_sinks(out, alloc, name, &linked.sinks)
+    write_sinks(out, alloc, name, &linked.sinks)?;
+    write_receives(out, alloc, name, &linked.receives)
 }
 
 /// Writes the commands that make the messages, by name.
@@ -208,8 +226,8 @@ fn write_events(out: &mut Vec<u8>, alloc: Global, events: &Script) -> Result<(),
 
 /// The commands that make a project of the first one, as text: its settings, the EDS by name with
 /// their lines, the nodes by number, their parameters by entry, the messages by name, each with its
-/// SYNC start value, its sources and its sinks, and the events by number. Takes time and memory by the
-/// length of the text.
+/// SYNC start value, its sources, its sinks and its receives, and the events by number. Takes time and
+/// memory by the length of the text.
 #[tactic(auto, using(crate::proofs::LineLemmas::script_parts))]
 pub fn script_text(alloc: Global, project: &Project) -> Result<Vec<u8>, AllocError>
     ensures text { IfOk result (λ text. text.items ≡ script project.now) }

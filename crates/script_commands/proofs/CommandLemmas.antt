@@ -18,7 +18,7 @@ use Rattle.project_edits.specs.Forms.{is_name, is_node_or_all, is_bit_rate, is_t
 use Rattle.cia301.specs.Limits.{is_node_number}
 use Rattle.project_edits.specs.Forms.{is_event_number, is_sync_counter}
 use Rattle.project_edits.specs.declared.script_version.ScriptVersion.{ScriptVersion}
-use Rattle.project_edits.specs.declared.script_version.ScriptVersion.TheVariants.{One, Two}
+use Rattle.project_edits.specs.declared.script_version.ScriptVersion.TheVariants.{One, Two, Three}
 use Rattle.project_edits.specs.Versions.{number_of as version_number, version_of as version_by_number}
 use Rattle.script_commands.specs.Requests.{block_of, bitrate_of, horizon_of, manager_of, drop_eds_of, node_of, drop_node_of}
 use Rattle.script_commands.specs.Requests.{id_of, param_of, unparam_of, event_at_time, set_of, switch, power_of, nmt}
@@ -69,6 +69,7 @@ counter_below n fits = let few : n ≤ 240 = grind (arith, nat_tests) in omega a
 pub version_below : (v : ScriptVersion) → version_number v < 10 ^ 10
 version_below One = lit< tt
 version_below Two = lit< tt
+version_below Three = lit< tt
 
 -- ---- commands
 
@@ -87,6 +88,7 @@ block_is line name count h named few = rw (
 version_again : (v : ScriptVersion) → version_by_number (version_number v) ≡ Ok v
 version_again One = refl
 version_again Two = refl
+version_again Three = refl
 
 pub version_is : (line : List ℕ) (v : ScriptVersion) → Has Ends line (decimal (version_number v) ∷ [])
     → version_of line ≡ Ok (edit.Version v)

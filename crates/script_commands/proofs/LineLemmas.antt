@@ -1,7 +1,7 @@
 -- Lines of words, as they are printed.
 use Rattle.std.proofs.Common.{◌≡◌, ℕ, suc, ◌+◌, ◌≤◌, Bool, true, false, not, ◌&&◌, List, [], ◌∷◌, ◌++◌, length, refl}
 use Rattle.std.proofs.Common.{sym, ap, ◌∙◌, arith, append-nil, length-append}
-use Rattle.std.specs.Prelude.{nat_lt, nat_le, Ok, codes}
+use Rattle.std.specs.Prelude.{nat_lt, nat_le, Result, Ok, codes}
 use Rattle.std.specs.List.{list_any, list_all}
 use Rattle.std.specs.Str.{bytes_eq}
 use Rattle.std.proofs.lemmas.Bool.{and_parts, not-true, le-ltb, leb-true, ltb-true}
@@ -9,6 +9,7 @@ use Rattle.std.proofs.lemmas.List.Folds.{list_any-append}
 use Rattle.std.proofs.lemmas.Slice.Eq.{bytes_eq-Decides}
 use Rattle.base.specs.Blanks.{is_blank, trim_end, trim}
 use Rattle.base.specs.Words.{word, after}
+use Rattle.project_edits.specs.declared.fault.EditFault.{EditFault}
 use Rattle.script_commands.specs.declared.request.Request.{Request}
 use Rattle.base.specs.Ranges.{is_between}
 use Rattle.project_edits.specs.Forms.{is_control, is_plain, is_text}
@@ -85,10 +86,10 @@ short w h =
     let sizes = and_parts (nat_lt 0 (length w)) (nat_le (length w) 12) all.0 in
     record { some = ltb-true 0 (length w) sizes.0; few = leb-true (length w) 12 sizes.1; visible = all.1 }
 
--- a line without control bytes, and what it asks
-pub record IsRead (line : List ℕ) (asked : Request) : Type 0 where
+-- a line without control bytes, and what it is read as
+pub record IsRead (line : List ℕ) (asked : Result Request EditFault) : Type 0 where
   pub clean : list_any is_control line ≡ false
-  pub is : request line ≡ Ok asked
+  pub is : request line ≡ asked
 
 module _ {P : List ℕ → Type 0} {n : ℕ} {line : List ℕ} {words : List (List ℕ)} (first : List ℕ)
     (is : is_short first ≡ true) (few : n ≤ 4083) (rest : Spells P n line words) where
@@ -105,13 +106,14 @@ module _ {P : List ℕ → Type 0} {n : ℕ} {line : List ℕ} {words : List (Li
   good_line = rw (le-ltb 4096 (length (first ++ 32 ∷ line)) (omega (arith, all_words.few)), all_words.clean) refl
 
   -- the line of a command
-  pub command : {asked : Request} → bytes_eq first (codes "eds") ≡ false → command_of first (32 ∷ line) ≡ Ok asked
+  pub command : {asked : Result Request EditFault} → bytes_eq first (codes "eds") ≡ false
+      → command_of first (32 ∷ line) ≡ asked
       → IsRead (first ++ 32 ∷ line) asked
   unfolding request
   command other h = record { clean = all_words.clean; is = rw (first_is, rest_is, other, good_line) h }
 
   -- the line before those of an EDS
   pub block : {asked : Request} → bytes_eq first (codes "eds") ≡ true → block_of false (32 ∷ line) ≡ Ok asked
-      → IsRead (first ++ 32 ∷ line) asked
+      → IsRead (first ++ 32 ∷ line) (Ok asked)
   unfolding request
   block same h = record { clean = all_words.clean; is = rw (first_is, rest_is, same, good_line) h }

@@ -5,7 +5,7 @@ use Rattle.base.specs.Words.{after}
 use Rattle.base.specs.Digits.{byte_digits, index_digits, identifier_digits}
 use Rattle.base.specs.Ranges.{is_between, AreIndices}
 use Rattle.project_messages.specs.declared.message.Message.{Message}
-use Rattle.project_messages.specs.Messages.{IsMessage, is_position, is_start}
+use Rattle.project_messages.specs.Messages.{IsMessage, is_position, is_rpdo_or_any, is_start}
 use Rattle.project_edits.specs.declared.edit.Edit.TheVariants as edit
 use Rattle.project_edits.specs.Forms.{is_name}
 use Rattle.cia301.specs.Limits.{is_pdo_number, is_node_number}
@@ -13,7 +13,7 @@ use Rattle.project_edits.specs.Lines.{words_of, line_of}
 use Rattle.script_commands.specs.declared.stated.Stated.{Stated}
 use Rattle.script_commands.specs.declared.request.Request.TheVariants.{Edit as EditAsked}
 use Rattle.script_commands.specs.Links.{stated_numbers, message_within, message_of, drop_message_of, source_of, unsource_of}
-use Rattle.script_commands.specs.Links.{sink_of, start_of, unsink_of}
+use Rattle.script_commands.specs.Links.{receive_of, sink_of, start_of, unreceive_of, unsink_of}
 use Rattle.script_commands.specs.Requests.{command_of, link_of, edit_request}
 use Rattle.script_commands.proofs.NumberLemmas.{number_word, index_is_word, sub_is_word, identifier_is_word, name_word}
 use Rattle.script_commands.proofs.NumberLemmas.{decimal_again, index_again, sub_again, identifier_again}
@@ -33,6 +33,9 @@ position_below n fits = omega (arith, most 1 64 n fits)
 
 start_below : (n : ℕ) → is_start n ≡ true → n < 10 ^ 10
 start_below n fits = omega (arith, most 0 240 n fits)
+
+rpdo_below : (n : ℕ) → is_rpdo_or_any n ≡ true → n < 10 ^ 10
+rpdo_below n fits = omega (arith, most 0 512 n fits)
 
 -- ---- commands
 
@@ -144,10 +147,35 @@ module _ (line message : List ℕ) (position : ℕ) (named : is_name message ≡
         number,
       ) refl
 
+module _ (line message : List ℕ) (node : ℕ) (named : is_name message ≡ true) (number : is_node_number node ≡ true) where
+  receive_is : (rpdo event : ℕ) → Has Ends line (message ∷ decimal node ∷ decimal rpdo ∷ decimal event ∷ [])
+      → is_rpdo_or_any rpdo ≡ true → is_between 0 65535 event ≡ true
+      → receive_of line ≡ Ok (edit.Receive message node rpdo event)
+  unfolding receive_of
+  receive_is rpdo event h fits small =
+      rw (
+        h.1.1.1.1,
+        h.0,
+        h.1.0,
+        h.1.1.0,
+        h.1.1.1.0,
+        named,
+        decimal_again node (id_below node number),
+        decimal_again rpdo (rpdo_below rpdo fits),
+        decimal_again event (short_below 0 event small),
+        number,
+        fits,
+        small,
+      ) refl
+
+  unreceive_is : Has Ends line (message ∷ decimal node ∷ []) → unreceive_of line ≡ Ok (edit.Unreceive message node)
+  unfolding unreceive_of
+  unreceive_is h = rw (h.1.1, h.0, h.1.0, named, decimal_again node (id_below node number), number) refl
+
 -- ---- printed lines
 
 pub read_message : (name : List ℕ) (m : Message) → is_name name ≡ true → IsMessage m
-    → IsRead (line_of (edit.Message name m)) (EditAsked (edit.Message name m))
+    → IsRead (line_of (edit.Message name m)) (Ok (EditAsked (edit.Message name m)))
 unfolding IsMessage line_of words_of command_of link_of
 read_message name m named is =
     let times = more (number_word m.inhibit (short_below 0 m.inhibit is.4))
@@ -160,14 +188,14 @@ read_message name m named is =
     command (codes "message") refl (lit≤ tt) line refl (ap edit_request (message_is m is _ name line.has named))
 
 pub read_start : (message : List ℕ) (n : ℕ) → is_name message ≡ true → is_start n ≡ true
-    → IsRead (line_of (edit.Start message n)) (EditAsked (edit.Start message n))
+    → IsRead (line_of (edit.Start message n)) (Ok (EditAsked (edit.Start message n)))
 unfolding line_of words_of command_of link_of
 read_start message n named fits =
     let line = more (name_word message named) (last (number_word n (start_below n fits))) in
     command (codes "start") refl (lit≤ tt) line refl (ap edit_request (start_is _ message n line.has named fits))
 
 pub read_drop_message : (name : List ℕ) → is_name name ≡ true
-    → IsRead (line_of (edit.DropMessage name)) (EditAsked (edit.DropMessage name))
+    → IsRead (line_of (edit.DropMessage name)) (Ok (EditAsked (edit.DropMessage name)))
 unfolding line_of words_of command_of link_of
 read_drop_message name named =
     let line = last (name_word name named) in
@@ -175,7 +203,7 @@ read_drop_message name named =
 
 module _ (message : List ℕ) (position : ℕ) where
   pub read_source : (index sub : ℕ) → is_name message ≡ true → is_position position ≡ true → AreIndices index sub
-      → IsRead (line_of (edit.Source message position index sub)) (EditAsked (edit.Source message position index sub))
+      → IsRead (line_of (edit.Source message position index sub)) (Ok (EditAsked (edit.Source message position index sub)))
   unfolding line_of words_of command_of link_of
   read_source index sub named fits are =
       let entry = more (index_is_word index (most 0 65535 index are.0)) (last (sub_is_word sub (most 0 255 sub are.1)))
@@ -185,7 +213,7 @@ module _ (message : List ℕ) (position : ℕ) where
       (ap edit_request (source_is _ message position named fits index sub line.has are))
 
   pub read_unsource : is_name message ≡ true → is_position position ≡ true
-      → IsRead (line_of (edit.Unsource message position)) (EditAsked (edit.Unsource message position))
+      → IsRead (line_of (edit.Unsource message position)) (Ok (EditAsked (edit.Unsource message position)))
   unfolding line_of words_of command_of link_of
   read_unsource named fits =
       let line = more (name_word message named) (last (number_word position (position_below position fits))) in
@@ -195,7 +223,7 @@ module _ (message : List ℕ) (position : ℕ) where
   pub read_sink : (node index sub : ℕ) → is_name message ≡ true → is_position position ≡ true
       → is_node_number node ≡ true → AreIndices index sub
       → IsRead (line_of (edit.Sink message position node index sub))
-      (EditAsked (edit.Sink message position node index sub))
+      (Ok (EditAsked (edit.Sink message position node index sub)))
   unfolding line_of words_of command_of link_of
   read_sink node index sub named fits number are =
       let entry = more (index_is_word index (most 0 65535 index are.0)) (last (sub_is_word sub (most 0 255 sub are.1)))
@@ -207,7 +235,7 @@ module _ (message : List ℕ) (position : ℕ) where
       (ap edit_request (sink_is _ message position named fits node index sub line.has number are))
 
   pub read_unsink : (node : ℕ) → is_name message ≡ true → is_position position ≡ true → is_node_number node ≡ true
-      → IsRead (line_of (edit.Unsink message position node)) (EditAsked (edit.Unsink message position node))
+      → IsRead (line_of (edit.Unsink message position node)) (Ok (EditAsked (edit.Unsink message position node)))
   unfolding line_of words_of command_of link_of
   read_unsink node named fits number =
       let line = more (name_word message named)
@@ -215,3 +243,24 @@ module _ (message : List ℕ) (position : ℕ) where
       in
       command (codes "unsink") refl (lit≤ tt) line refl
       (ap edit_request (unsink_is _ message position named fits node line.has number))
+
+module _ (message : List ℕ) (node : ℕ) where
+  pub read_receive : (rpdo event : ℕ) → is_name message ≡ true → is_node_number node ≡ true
+      → is_rpdo_or_any rpdo ≡ true → is_between 0 65535 event ≡ true
+      → IsRead (line_of (edit.Receive message node rpdo event))
+      (Ok (EditAsked (edit.Receive message node rpdo event)))
+  unfolding line_of words_of command_of link_of
+  read_receive rpdo event named number fits small =
+      let line = more (name_word message named)
+      (more (number_word node (id_below node number))
+      (more (number_word rpdo (rpdo_below rpdo fits)) (last (number_word event (short_below 0 event small))))) in
+      command (codes "receive") refl (lit≤ tt) line refl
+      (ap edit_request (receive_is _ message node named number rpdo event line.has fits small))
+
+  pub read_unreceive : is_name message ≡ true → is_node_number node ≡ true
+      → IsRead (line_of (edit.Unreceive message node)) (Ok (EditAsked (edit.Unreceive message node)))
+  unfolding line_of words_of command_of link_of
+  read_unreceive named number =
+      let line = more (name_word message named) (last (number_word node (id_below node number))) in
+      command (codes "unreceive") refl (lit≤ tt) line refl
+      (ap edit_request (unreceive_is _ message node named number line.has))

@@ -5,6 +5,7 @@ use Rattle.co_scenario.specs.declared.event.Event.{Event}
 use Rattle.co_scenario.specs.declared.event.Event.TheVariants as event
 use Rattle.co_scenario.specs.Commands.{number_of}
 use Rattle.project_edits.specs.declared.manager_settings.ManagerSettings.{ManagerSettings}
+use Rattle.project_edits.specs.declared.script_version.ScriptVersion.{ScriptVersion}
 use Rattle.project_edits.specs.declared.edit.Edit.{Edit}
 use Rattle.project_edits.specs.declared.edit.Edit.TheVariants as edit
 use Rattle.script_commands.specs.declared.request.Request.TheVariants.{Edit as EditAsked}
@@ -24,9 +25,10 @@ use Rattle.script_commands.proofs.CommandLemmas.{most, node_below, id_below, rat
 use Rattle.script_commands.proofs.CommandLemmas.{key_below, short_below, command_below, block_is, bitrate_is, horizon_is}
 use Rattle.script_commands.proofs.CommandLemmas.{manager_is, drop_eds_is, node_is, drop_node_is, param_is, unparam_is}
 use Rattle.script_commands.proofs.CommandLemmas.{drop_event_is, event_is, set_is, power_is, nmt_is}
-use Rattle.script_commands.proofs.CommandLemmas.{counter_below, need_is, sync_counter_is, version_below, version_is}
+use Rattle.script_commands.proofs.CommandLemmas.{counter_below, need_is, sync_counter_is, version_below}
+use Rattle.script_commands.proofs.CommandLemmas.{version_is}
 use Rattle.script_commands.proofs.LinkLemmas.{read_message, read_drop_message, read_source, read_unsource, read_sink}
-use Rattle.script_commands.proofs.LinkLemmas.{read_start, read_unsink}
+use Rattle.script_commands.proofs.LinkLemmas.{read_receive, read_start, read_unreceive, read_unsink}
 use Rattle.script_commands.proofs.BlockLemmas.{lines_counted}
 
 -- ---- words at the end of a line
@@ -55,7 +57,7 @@ module _ (key time : ℕ) (numbered : is_event_number key ≡ true) (timed : is_
       → is_short kind ≡ true → n ≤ 4048 → Spells P n line words → (e : Event)
       → ((rest : List ℕ) → Has P rest words → happening_of key time kind rest ≡ Ok (event_at_time key time e))
       → IsRead (codes "event" ++ 32 ∷ (decimal key ++ 32 ∷ (decimal time ++ 32 ∷ (kind ++ 32 ∷ line))))
-      (EditAsked (event_at_time key time e))
+      (Ok (EditAsked (event_at_time key time e)))
   unfolding command_of
   event_line {P = P} {words = words} kind is few rest e happens =
       let line = more (number_word key (key_below key numbered))
@@ -64,7 +66,7 @@ module _ (key time : ℕ) (numbered : is_event_number key ≡ true) (timed : is_
       (ap edit_request (event_is key time numbered timed P _ kind words line.has ∙ happens _ line.has.1.1.1))
 
   read_event : (e : Event) → IsEvent e → IsRead (line_of (event_at_time key time e))
-      (EditAsked (event_at_time key time e))
+      (Ok (EditAsked (event_at_time key time e)))
   unfolding IsEvent line_of words_of event_words
   read_event (event.Set node index sub text) is =
       event_line (codes "set") refl (lit≤ tt) (more (number_word node (id_below node is.0))
@@ -80,7 +82,7 @@ module _ (key time : ℕ) (numbered : is_event_number key ≡ true) (timed : is_
 
 -- ---- edits
 
-read_manager : (m : ManagerSettings) → IsManager m → IsRead (line_of (edit.Manager m)) (EditAsked (edit.Manager m))
+read_manager : (m : ManagerSettings) → IsManager m → IsRead (line_of (edit.Manager m)) (Ok (EditAsked (edit.Manager m)))
 unfolding IsManager line_of words_of command_of
 read_manager m is =
     let times = more (number_word m.heartbeat_ms (short_below 0 m.heartbeat_ms is.2))
@@ -89,19 +91,24 @@ read_manager m is =
     (more (number_word m.sync_us (period_below m.sync_us is.1)) times) in
     command (codes "manager") refl (lit≤ tt) line refl (ap edit_request (manager_is _ m line.has is))
 
-read_eds : (name text : List ℕ) → IsEds name text → IsRead (line_of (edit.Eds name text)) (asks (edit.Eds name text))
+read_eds : (name text : List ℕ) → IsEds name text → IsRead (line_of (edit.Eds name text)) (Ok (asks (edit.Eds name text)))
 unfolding line_of words_of
 read_eds name text is =
     let few : line_count text ≤ 65536 = omega (arith, is.lines, lines_counted name text is) in
     let line = more (name_word name is.name) (last (number_word (line_count text) (omega arith))) in
     block (codes "eds") refl (lit≤ tt) line refl (block_is _ name (line_count text) line.has is.name few)
 
--- the line of each edit asks for it
-pub read_again : (o : Edit) → IsEdit o → IsRead (line_of o) (asks o)
-unfolding IsEdit line_of words_of command_of
-read_again (edit.Version v) is =
+-- the line of a version
+read_version : (v : ScriptVersion) → IsRead (line_of (edit.Version v)) (Ok (asks (edit.Version v)))
+unfolding line_of words_of command_of
+read_version v =
     let line = last (number_word (version_number v) (version_below v)) in
     command (codes "version") refl (lit≤ tt) line refl (ap edit_request (version_is _ v line.has))
+
+-- the line of each edit asks for it
+pub read_again : (o : Edit) → IsEdit o → IsRead (line_of o) (Ok (asks o))
+unfolding IsEdit line_of words_of command_of
+read_again (edit.Version v) is = read_version v
 read_again (edit.Bitrate rate) fits =
     let line = last (number_word rate (rate_below rate fits)) in
     command (codes "bitrate") refl (lit≤ tt) line refl (ap edit_request (bitrate_is _ rate line.has fits))
@@ -140,6 +147,8 @@ read_again (edit.Unsource message position) is = read_unsource message position 
 read_again (edit.Sink message position node index sub) is =
     read_sink message position node index sub is.0 is.1 is.2 is.3
 read_again (edit.Unsink message position node) is = read_unsink message position node is.0 is.1 is.2
+read_again (edit.Receive message node rpdo event) is = read_receive message node rpdo event is.0 is.1 is.2 is.3
+read_again (edit.Unreceive message node) is = read_unreceive message node is.0 is.1
 read_again (edit.Event key e) is = read_event key e.time is.0 is.1 e.event is.2
 read_again (edit.DropEvent key) fits =
     let line = last (number_word key (key_below key fits)) in

@@ -3,7 +3,7 @@ use Rattle.std.specs.Prelude.{ℕ, List, Result, Ok}
 use Rattle.base.specs.Ranges.{is_between}
 use Rattle.base.specs.Words.{word, after}
 use Rattle.project_messages.specs.declared.message.Message.{Message}
-use Rattle.project_messages.specs.Messages.{is_position, is_start}
+use Rattle.project_messages.specs.Messages.{is_position, is_rpdo_or_any, is_start}
 use Rattle.project_edits.specs.declared.fault.EditFault.{EditFault}
 use Rattle.project_edits.specs.declared.edit.Edit.{Edit}
 use Rattle.project_edits.specs.declared.edit.Edit.TheVariants as edit
@@ -103,3 +103,25 @@ unsink_of rest = do
   position ← number_within is_position place
   node ← number_within is_node_number number
   Ok (edit.Unsink message position node)
+
+-- `MESSAGE ID RPDO MS`
+unfoldable pub receive_of : List ℕ → Result Edit EditFault
+receive_of rest = do
+  last ← last_word (after (after (after rest)))
+  message ← name (word rest)
+  number ← decimal (word (after rest))
+  pdo ← decimal (word (after (after rest)))
+  time ← decimal last
+  node ← number_within is_node_number number
+  rpdo ← number_within is_rpdo_or_any pdo
+  event ← number_within (is_between 0 0xFFFF) time
+  Ok (edit.Receive message node rpdo event)
+
+-- `MESSAGE ID`
+unfoldable pub unreceive_of : List ℕ → Result Edit EditFault
+unreceive_of rest = do
+  last ← last_word (after rest)
+  message ← name (word rest)
+  number ← decimal last
+  node ← number_within is_node_number number
+  Ok (edit.Unreceive message node)

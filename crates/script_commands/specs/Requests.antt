@@ -24,6 +24,7 @@ use Rattle.project_edits.specs.Forms.{is_sync_counter, is_sync_period, is_event_
 use Rattle.project_edits.specs.Versions.{version_of as version_by_number}
 use Rattle.base.specs.Steps.{◌>>=◌}
 use Rattle.script_commands.specs.Links.{message_of, start_of, drop_message_of, source_of, unsource_of, sink_of, unsink_of}
+use Rattle.script_commands.specs.Links.{receive_of, unreceive_of}
 use Rattle.script_commands.specs.Words.{last_word, is_bad_line, name, decimal, hexadecimal, text}
 
 -- an edit is asked
@@ -269,6 +270,8 @@ link_of first rest =
     else if bytes_eq first (codes "unsource") then edit_request (unsource_of rest)
     else if bytes_eq first (codes "sink") then edit_request (sink_of rest)
     else if bytes_eq first (codes "unsink") then edit_request (unsink_of rest)
+    else if bytes_eq first (codes "receive") then edit_request (receive_of rest)
+    else if bytes_eq first (codes "unreceive") then edit_request (unreceive_of rest)
     else query_request (query_of first rest)
 
 -- what a first word and the rest of its line ask

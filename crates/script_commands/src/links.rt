@@ -1,17 +1,17 @@
-//! The edits of messages: the messages, their sources and their sinks.
+//! The edits of messages: the messages, their sources, their sinks and their receives.
 ghost use Rattle.std.specs.Prelude.{◌≡◌, IfOk};
 ghost use Rattle.base.specs.Gives.{Gives};
 ghost use Rattle.project_edits.specs.Faults.{is_memory};
 ghost use Rattle.project_messages.specs.Messages.{IsMessage};
 ghost use Rattle.script_commands.specs.Links.{stated_numbers, message_within, message_of, start_of, drop_message_of};
-ghost use Rattle.script_commands.specs.Links.{source_of, unsource_of, sink_of, unsink_of};
+ghost use Rattle.script_commands.specs.Links.{source_of, unsource_of, sink_of, unsink_of, receive_of, unreceive_of};
 
 use crate::numbers::{cob, decimal, index, sub_index};
 use crate::stated::Stated;
 use crate::words::{last_word, name};
 use base::{Octets, next_word};
 use project_edits::limits::{
-    byte, identifier, node_number, position, short, sync_start, tpdo_number,
+    byte, identifier, node_number, position, rpdo_or_any, short, sync_start, tpdo_number,
 };
 use project_edits::{Command, Edit, EditFault};
 use project_messages::Message;
@@ -174,4 +174,43 @@ pub(crate) fn unsink(alloc: Global, rest: &[u8]) -> Result<Command, EditFault>
         position,
         node,
     }))
+}
+
+/// `receive MESSAGE ID RPDO MS`
+#[tactic(auto, unfolding(crate::specs::Links::receive_of, project_edits::specs::Edits::IsEdit))]
+pub(crate) fn receive(alloc: Global, rest: &[u8]) -> Result<Command, EditFault>
+    ensures { Gives is_memory (λ c. c) result (receive_of rest.now) }
+{
+    let (called, rest) = next_word(rest);
+    let (node, rest) = next_word(rest);
+    let (rpdo, rest) = next_word(rest);
+    let event = last_word(rest)?;
+    let called = name(called)?;
+    let node = decimal(node)?;
+    let rpdo = decimal(rpdo)?;
+    let event = decimal(event)?;
+    let node = node_number(node)?;
+    let rpdo = rpdo_or_any(rpdo)?;
+    let event = short(event)?;
+    let message = Octets::from_slice(alloc, called)?;
+    Ok(Command::new(Edit::Receive {
+        message,
+        node,
+        rpdo,
+        event,
+    }))
+}
+
+/// `unreceive MESSAGE ID`
+#[tactic(auto, unfolding(crate::specs::Links::unreceive_of, project_edits::specs::Edits::IsEdit))]
+pub(crate) fn unreceive(alloc: Global, rest: &[u8]) -> Result<Command, EditFault>
+    ensures { Gives is_memory (λ c. c) result (unreceive_of rest.now) }
+{
+    let (called, rest) = next_word(rest);
+    let node = last_word(rest)?;
+    let called = name(called)?;
+    let node = decimal(node)?;
+    let node = node_number(node)?;
+    let message = Octets::from_slice(alloc, called)?;
+    Ok(Command::new(Edit::Unreceive { message, node }))
 }

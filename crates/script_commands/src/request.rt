@@ -10,7 +10,9 @@ use crate::edits::{
     version,
 };
 use crate::events::{drop_event, event};
-use crate::links::{drop_message, message, sink, source, start, unsink, unsource};
+use crate::links::{
+    drop_message, message, receive, sink, source, start, unreceive, unsink, unsource,
+};
 use crate::numbers::decimal;
 use crate::query::Query;
 use crate::words::{is_bad_line, last_word};
@@ -159,6 +161,10 @@ fn link(alloc: Global, first: &[u8], rest: &[u8]) -> Result<Request, EditFault>
         edit(unsource(alloc, rest))
     } else if first == b"unsink".as_slice() {
         edit(unsink(alloc, rest))
+    } else if first == b"receive".as_slice() {
+        edit(receive(alloc, rest))
+    } else if first == b"unreceive".as_slice() {
+        edit(unreceive(alloc, rest))
     } else {
         query(Query::read(first, rest))
     }

@@ -23,6 +23,7 @@ PACE = 0.002            # seconds between two frames that wait for no answer, so
 MOST_WAITING = 1_000    # frames that are taken at once
 SAME_CLOCK = 2.0        # seconds by which the adapter's clock may differ and still be the computer's
 LEAST_RATE, LEAST_VERSION = 5_000, 4
+FILLED = 80             # per cent of a bus that are all of it, since stuff bits aren't counted
 CONFIRMED = 0.05        # seconds for which what was sent last may be on its way to the bus
 ECHOING = ("udp_multicast",)            # interfaces that give back what was sent as a frame of others
 CONFIRMING = ("socketcan", "virtual")   # those that give it back, as what was sent, once it was on the bus
@@ -99,6 +100,7 @@ def opened(options: argparse.Namespace, planned: Optional[int] = None, is_silent
     connection = Connection(can, bus, log, is_silent)
     connection.is_confirmed = is_confirmed
     connection.has_echo, connection.name = config.get("interface") in ECHOING, channel_word(config.get("channel"))
+    connection.bitrate = config.get("bitrate")
     return connection
 
 
@@ -111,11 +113,13 @@ class Connection:
     is_silent  whether nothing may be sent
     aside      how many frames came that CANopen doesn't have
     name       that of the channel, in one word
+    bitrate    bits a second, None where nothing says it
     has_echo   whether each frame that was sent comes back as one of another
     is_confirmed  whether each comes back once it was on the bus; the log has it then. So many are still to come: `unconfirmed`
     """
 
     clock: Any = time
+    bitrate: Optional[int] = None
     has_echo, is_confirmed, name = False, False, "can0"
 
     def __init__(self, can: Any, bus: Any, log: Optional[FrameLog] = None, is_silent: bool = False) -> None:
@@ -224,6 +228,11 @@ class Connection:
         while self.echoes.popleft() != frame:
             pass
         return True
+
+    def filled(self, bits: int, seconds: float) -> Optional[int]:
+        """The per cent of the bus that so many bits of frames filled in a time, None where they left it room."""
+        share = 100 * bits / (self.bitrate * seconds) if self.bitrate else 0
+        return round(share) if share >= FILLED else None
 
     def waiting(self) -> List[Frame]:
         """The frames of the others that have come already."""

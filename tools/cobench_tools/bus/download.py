@@ -107,6 +107,7 @@ class Network:
     """The boots of several nodes, one after the other, and their starts.
 
     is_whole  whether they are all nodes of the plan
+    version   that of the script, which says how they are started
     commands  the start commands that were sent: 0 for all, else a node
     """
 
@@ -115,16 +116,16 @@ class Network:
     def __init__(self, plan: Planned, downloads: List[Download], bus: Connection, others: Neighbours) -> None:
         self.plan, self.downloads, self.bus, self.others = plan, downloads, bus, others
         self.is_whole = len(downloads) == len(plan.nodes)
-        self.starts_whole = plan.project.version == 2
+        self.version = plan.project.version
         self.commands: List[int] = []
 
     def run(self, step: Callable[[], None], with_start: bool = True) -> None:
         """Boots all, and starts what is to be started."""
         for download in self.downloads:
             download.run(step)
-            if with_start and not self.starts_whole:
+            if with_start and self.version == 1:
                 self._start([download])
-        if with_start and self.starts_whole:
+        if with_start and self.version > 1:
             self._start_network()
 
     def missing(self) -> List[int]:
@@ -133,12 +134,13 @@ class Network:
         return [each.node for each in self.downloads if each.node in mandatory and not each.is_ready()]
 
     def _start_network(self) -> None:
-        """One command starts all, but where it would start a node that isn't configured: then each by itself."""
+        """In version 2 one command starts all, but where it would start a node that isn't configured: then each by itself, as
+        in version 3."""
         self.bus.waiting()
         if self.is_whole and self.missing():
             return
         unplanned = self.others.heard - set(self.plan.nodes)
-        if self.is_whole and not unplanned and all(each.is_ready() for each in self.downloads):
+        if self.version == 2 and self.is_whole and not unplanned and all(each.is_ready() for each in self.downloads):
             self._send(0, self.downloads)
         else:
             self._start(self.downloads)

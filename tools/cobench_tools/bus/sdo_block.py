@@ -39,6 +39,7 @@ def received(client: SdoClient, with_sum: bool) -> bytes:
         if repeats > MOST_REPEATS:
             raise client.abort(SEQUENCE, "its segments don't come in their order")
         client.put(bytes([0xA2, len(parts), MOST_SEGMENTS]) + bytes(5))
+        client.step(SEGMENT * len(parts))
     end = client.answer()
     client.check_command(end, 0xE3, 0xC1, "the end of a block transfer")
     data = data[:len(data) - (end[0] >> 2 & 7)]
@@ -99,4 +100,5 @@ def send(client: SdoClient, data: bytes, count: int) -> None:
         repeats = 0 if taken else repeats + 1
         if taken > len(block) or repeats > MOST_REPEATS:
             raise client.abort(SEQUENCE, f"it has taken {taken} of {len(block)} segments")
+        client.step(sum(map(len, parts[place:place + taken])))
         place += taken

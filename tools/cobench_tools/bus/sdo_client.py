@@ -2,7 +2,7 @@
 
 Its frames are those of docs/rules/sdo.md; block transfers are in sdo_block.py.
 """
-from typing import Optional
+from typing import Callable, Optional
 
 from ..trace import Frame
 from .connection import Connection
@@ -20,10 +20,12 @@ class SdoClient:
 
     timeout   the seconds within which each answer has to come
     key       the entry of the transfer that is open, None for none
+    step      is called with how many bytes of a long value are there
     """
 
-    def __init__(self, connection: Connection, node: int, timeout: float) -> None:
-        self.connection, self.node, self.timeout = connection, node, timeout
+    def __init__(self, connection: Connection, node: int, timeout: float,
+                 step: Callable[[int], None] = lambda count: None) -> None:
+        self.connection, self.node, self.timeout, self.step = connection, node, timeout, step
         self.requests, self.answers = REQUESTS + node, ANSWERS + node
         self.key: Optional[Key] = None
 
@@ -67,6 +69,7 @@ class SdoClient:
                 raise self.abort(COMMAND, "its segment has no byte, and isn't the last one")
             data, toggle = data + part, 1 - toggle
             self.check_length(data, size, is_last)
+            self.step(len(part))
         return data
 
     def check_length(self, data: bytes, size: Optional[int], is_whole: bool) -> None:
@@ -83,6 +86,7 @@ class SdoClient:
             answer = self.ask(bytes([command]) + part.ljust(SEGMENT, b"\0"))
             self.check_command(answer, 0xE0, 0x20, "the answer to a segment")
             self._check_toggle(answer, toggle)
+            self.step(len(part))
 
     # Frames out and in.
 
@@ -122,12 +126,13 @@ class SdoClient:
             raise
 
     def _answer(self) -> bytes:
-        until = self.connection.clock.monotonic() + self.timeout
+        until, bits = self.connection.clock.monotonic() + self.timeout, 0
         while True:
             frame = self.connection.receive(until)
             if frame is None:
                 self._send_abort(TIMED_OUT)
-                raise Unanswered(self.node, self.key, self.timeout)
+                raise Unanswered(self.node, self.key, self.timeout, self.connection.filled(bits, self.timeout))
+            bits += frame.bits
             self._check_foreign(frame)
             if frame.identifier == self.answers and len(frame.data) == 8:
                 return self._without_abort(frame.data)

@@ -51,10 +51,14 @@ class Aborted(Failed):
 
 
 class Unanswered(Failed):
-    """No answer came in time."""
+    """No answer came in time.
 
-    def __init__(self, node: Optional[int], key: Optional[Key], seconds: float) -> None:
-        super().__init__("sdo-unanswered", node, key, f"no answer in {seconds * 1000:g} ms")
+    filled  the per cent of the bus that frames took meanwhile, None where they left it room
+    """
+
+    def __init__(self, node: Optional[int], key: Optional[Key], seconds: float, filled: Optional[int] = None) -> None:
+        full = f"; frames filled the bus to {filled} % meanwhile: cobtool load says which" if filled else ""
+        super().__init__("sdo-unanswered", node, key, f"no answer in {seconds * 1000:g} ms{full}")
 
 
 class Booted(Failed):

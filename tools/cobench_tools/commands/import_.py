@@ -13,6 +13,10 @@ sheets without these values, the nodes, a `param` for each value that can be
 written and isn't the default's, and the messages: TPDOs and RPDOs with one COB-ID
 belong together. Of a file as cobench prints them each value becomes a `param`.
 
+The script has `version 3` where less is lost so: where a PDO is off that the data
+sheet has on, has a mapping that can't be written, or isn't the one that the plan
+would give, or where an RPDO has an event time (`receive`).
+
 What a script can't say is reported as FILE:LINE: warning: a value of an entry that is
 read only, an RPDO whose sender is in none of the files, a mapping that fits to no
 value of the sender, an identifier that a node takes twice, as an RPDO stays on by its

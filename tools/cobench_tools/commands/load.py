@@ -13,7 +13,7 @@ SUMMARY = "say what the bus has to carry at worst, and which frames may be late"
 
 AFTER = f"""Runs cobench on SCRIPT, and prints for each identifier how long its frames are and how
 often they can come, its share of the bus, and the longest time that one waits until
-it is there whole: without stuff bits, as cobench simulates, and with the most. At
+it is there whole: without stuff bits, and with the most that a frame can have. At
 worst each node sends an emergency at once, and one SDO frame of 8 bytes has just
 started. Frames of others are counted by --foreign, and as a recording has them by
 --with: each identifier that SCRIPT doesn't plan, and SDO behind the last start
@@ -22,7 +22,9 @@ it stand the longest wait in the trace, which may be no longer, and the deadline
 what SYNC sends the window (--window, else the next SYNC at which it is sent again),
 for a heartbeat what the shortest consumer time leaves of its period, for others
 their own period. What may be late is an error; emergencies, SDO and frames of others
-have no deadline. The boot has a table of its own.
+have no deadline. The boot has a table of its own. The trace has no stuff bits in
+versions 1 and 2; in version 3 it has those of ISO 11898-1, and so have SYNC,
+heartbeats and the boot, whose bytes are known.
 
 A frame that is sent at changes, without inhibit time and event time, has no bound,
 and neither has what goes behind it: a warning says what would bound it. With --assume US

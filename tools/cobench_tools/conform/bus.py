@@ -23,8 +23,8 @@ class Bus:
     blocks  the last two blocks, the newest last
     """
 
-    def __init__(self, bit, tolerance):
-        self.bit, self.tolerance, self.blocks, self.load = bit, tolerance, [], Load(bit)
+    def __init__(self, bit, tolerance, has_stuff_bits=False):
+        self.bit, self.tolerance, self.blocks, self.load = bit, tolerance, [], Load(bit, has_stuff_bits)
         self.durations = [(plain_bits(0) + BITS_OF_A_DIGIT * digits) * bit for digits in range(MOST_DIGITS + LONGER + 1)]
         self.squeeze, self.tight, self.loose, self.count = 0, 0, 0, 0
 

@@ -1,6 +1,7 @@
 """Has the followers take the frames of a log, each those of its identifier."""
 from ..logs.rows import key_of
 from ..plan import LEAST_IDENTIFIER
+from ..trace import has_stuff_bits
 from ..wiring import is_restricted
 from . import consequences, emergencies, keys
 from .absence import Absences
@@ -54,7 +55,8 @@ class Judge:
         self.is_of_plan = causes.alignment is None
         self.begin = self.end = self.opening = None
         self.last_line, self.active_since, self.is_power_on = 0, None, None
-        self.bus, self.sync = Bus(plan.bit if self.is_of_plan else plan.bus_bit, tolerance), Sync(self)
+        self.bus = Bus(plan.bit if self.is_of_plan else plan.bus_bit, tolerance, has_stuff_bits(plan.project))
+        self.sync = Sync(self)
         self.startup, self.places = Startup(plan), Places()
         self.nodes = {number: Node(self, planned) for number, planned in sorted(plan.nodes.items())}
         self.manager, self.strays = Manager(self), Strays(self)

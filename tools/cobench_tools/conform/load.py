@@ -4,6 +4,7 @@ from collections import Counter
 from operator import itemgetter
 
 from ..logs.rows import ERROR, EXTENDED, FLEXIBLE, OTHER, REMOTE
+from ..wire_bits import exact_bits
 
 KEY = itemgetter(1)
 WINDOW = 100_000
@@ -24,16 +25,23 @@ def shape_of(aside):
     return ERROR_FRAME if aside.kind == ERROR else LONG_FRAME if aside.is_long() else FRAME
 
 
+def bits_of(shape, frames, size):
+    """The bits of so many frames that have so many bytes together, and the most that they can have."""
+    (plain, each), (longest, each_longest) = shape
+    return plain * frames + each * size, longest * frames + each_longest * size
+
+
 class Load:
     """How full the bus was in each window of 100 ms, by all frames but those of flexible data rate.
 
     bits     of each window from the first one on, without stuff bits; `most` is the same with the most stuff bits
+    is_exact whether both count the stuff bits that frames of 11 bits have
     planned  the keys of the frames that the plan has
     of       whose the bits are that the plan doesn't have, in words
     """
 
-    def __init__(self, bit):
-        self.bit, self.start, self.bits, self.most = bit, None, [], []
+    def __init__(self, bit, is_exact=False):
+        self.bit, self.is_exact, self.start, self.bits, self.most = bit, is_exact, None, [], []
         self.last, self.planned, self.of = None, frozenset(), Counter()
 
     def add(self, block):
@@ -53,27 +61,31 @@ class Load:
         while place < len(rows):
             window = (times[place] - self.start) // WINDOW
             end = bisect.bisect_left(times, self.start + (window + 1) * WINDOW, place)
-            self._fill(window, end - place, sum([len(data) for _, _, data in rows[place:end]]) // 2, FRAME)
+            self._fill(window, *self._bits_of(rows[place:end]))
             place = end
         if not self.planned.issuperset(map(KEY, rows)):
-            sizes = [len(data) // 2 for _, key, data in rows if key not in self.planned]
-            self.of[UNPLANNED] += FRAME[0][0] * len(sizes) + FRAME[0][1] * sum(sizes)
+            self.of[UNPLANNED] += self._bits_of([row for row in rows if row[1] not in self.planned])[0]
+
+    def _bits_of(self, rows):
+        """The bits of frames of 11 bits, and the most that they can have."""
+        if self.is_exact:
+            return 2 * (sum(exact_bits(int(key[:3], 16), bytes.fromhex(data)) for _, key, data in rows),)
+        return bits_of(FRAME, len(rows), sum([len(data) for _, _, data in rows]) // 2)
 
     def _add_other(self, aside):
         """Counts a frame that isn't one of the network."""
         shape = shape_of(aside)
-        self._fill((aside.time - self.start) // WINDOW, 1, aside.size, shape)
+        self._fill((aside.time - self.start) // WINDOW, *bits_of(shape, 1, aside.size))
         self.of[WHOSE[aside.kind]] += shape[0][0] + shape[0][1] * aside.size
 
-    def _fill(self, window, frames, size, shape):
+    def _fill(self, window, bits, most):
         missing = window + 1 - len(self.bits)
         if missing > 0:
             self.bits += [0] * min(missing, MOST_WINDOWS)
             self.most += [0] * min(missing, MOST_WINDOWS)
         window = min(window, len(self.bits) - 1)
-        (plain, each), (longest, each_longest) = shape
-        self.bits[window] += plain * frames + each * size
-        self.most[window] += longest * frames + each_longest * size
+        self.bits[window] += bits
+        self.most[window] += most
 
     def shares(self, bits):
         """The share of each window in per cent, the last one but for what the log has of it."""

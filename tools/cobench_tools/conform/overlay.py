@@ -4,6 +4,7 @@ It is what picture.py draws, twice: times are those of the planned run, shifted 
 """
 from .. import meaning, recording, safe_text
 from ..picture import OTHERS, STATES, Drawing, Sorts, event_flag, events_of, moments_of, states_of
+from ..trace import is_stuffed
 from .compared import mark_others
 from .heard import Heard
 
@@ -125,5 +126,5 @@ class Overlay:
             "title": safe_text.readable(title), "script": True, "end": self.end, "bit": self.plan.bit, "kinds": meaning.KINDS,
             "stateNames": STATES, "lanes": self.lanes(), "states": self.states(), "sorts": rows,
             "windows": windows, "events": events + self.flags(),
-            "left": self.recorded.left,
+            "left": self.recorded.left, **({"stuffed": True} if is_stuffed(self.plan.lines) else {}),
         }

@@ -81,7 +81,7 @@ class Plan:
         self.bit = self.bus_bit = 1000 // self.project.bitrate
         self.nodes = {number: PlannedNode(number, node, answered.lines("cdcf", number))
                       for number, node in self.wiring.nodes.items()}
-        self.lines = trace.of_answer(answered.lines("trace"))
+        self.lines = trace.of_answer(answered.lines("trace"), answered.project)
         self.frames = [(time, key_of(identifier), data.hex().upper()) for time, identifier, data in trace.frames_of(self.lines)]
         self.landmarks, self.first_sync, self.sent = {}, None, {}
         for time, key, data in self.frames:

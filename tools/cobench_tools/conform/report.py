@@ -116,12 +116,19 @@ class ConformReport(Report):
         load = self.judge.bus.load
         shares = load.shares(load.bits)
         peak = max(range(len(shares)), key=shares.__getitem__)
-        texts = [f"load {load.total(load.bits):.1f} %{self.whose_text()}, with stuff bits at most {load.total(load.most):.1f} %",
+        texts = [self.load_text(),
                  f"its peak in {WINDOW // 1000} ms {shares[peak]:.1f} %, from {seconds(peak * WINDOW + load.start - self.zero)} on"]
         sync = self.judge.sync
         if sync.period and sync.count > 1:
             texts.append(f"SYNC each {milliseconds(sync.shortest)} to {milliseconds(sync.longest)}")
         return "; ".join(texts + [self.judge.tolerance.words()])
+
+    def load_text(self):
+        """How full the bus was: in version 3 with stuff bits, as far as they are known."""
+        load = self.judge.bus.load
+        if load.is_exact and load.bits == load.most:
+            return f"load {load.total(load.bits):.1f} % with stuff bits{self.whose_text()}"
+        return f"load {load.total(load.bits):.1f} %{self.whose_text()}, with stuff bits at most {load.total(load.most):.1f} %"
 
     def whose_text(self):
         """Whose frames made the load, where it isn't the network's alone."""

@@ -10,8 +10,8 @@ from .. import script
 
 # How many words behind the first one say what a command sets.
 KEY_WORDS = {b"version": 0, b"bitrate": 0, b"horizon": 0, b"manager": 0, b"sync-counter": 0, b"eds": 1, b"node": 1,
-             b"need": 1, b"param": 3, b"message": 1, b"start": 1, b"source": 2, b"sink": 3, b"event": 1}
-OF_A_MESSAGE = (b"start", b"source", b"sink")
+             b"need": 1, b"param": 3, b"message": 1, b"start": 1, b"source": 2, b"sink": 3, b"receive": 2, b"event": 1}
+OF_A_MESSAGE = (b"start", b"source", b"sink", b"receive")
 
 # Edits by which no file of a node can become another, and those of the files of one node, which they name (docs/rules/commands.md).
 OF_NO_FILE, OF_ONE_NODE = (b"event", b"drop-event", b"horizon"), (b"param", b"unparam")
@@ -138,6 +138,8 @@ class Way:
                 self.drop(key, b"drop-message %s\n" % key[1], *parts.get(key[1], ()))
 
     def drop_parts(self):
+        for key in self.gone(b"receive"):
+            self.drop(key, b"unreceive %s %s\n" % key[1:])
         for key in self.gone(b"sink"):
             self.drop(key, b"unsink %s %s %s\n" % key[1:])
         for key in self.gone(b"source"):

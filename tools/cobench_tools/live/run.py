@@ -5,6 +5,7 @@ from typing import Any, Dict, Tuple
 from .. import boots, findings, meaning, receiver_names
 from ..boots import is_boot_up
 from ..picture import OTHERS, STATES, Sorts, event_flag, events_of, first_states, go_on, in_order, told_by_node
+from ..trace import has_stuff_bits
 from .drawing import TextDrawing
 
 WINDOW = 10_000         # microseconds
@@ -221,6 +222,7 @@ class Run:
             "script": True, "end": project.horizon, "known": self.known, "bit": 1000 // project.bitrate, "kinds": meaning.KINDS,
             "stateNames": STATES, "lanes": self.lanes(), "states": self._states_of(events),
             "events": [event_flag(self._network, *each) for each in events],
+            **({"stuffed": True} if has_stuff_bits(project) else {}),
         }
 
     def _states_of(self, events):

@@ -16,7 +16,7 @@ MOST_SOURCES = 5
 
 # What hints name in the place of the word that is wrong (hints.py, forms.py, likely.py, value_causes.py).
 MEANT = re.compile(r"ID is a number: \S+ is node (\d+)|is hexadecimal without 0x: ([0-9A-Fa-f]+)|is it ([a-z-]+)\?|"
-                   r"commands are in lower case: ([a-z-]+)|"
+                   r"commands are in lower case: ([a-z-]+)|COB ([0-9A-F]{3}) would do|"
                    r"is in (?:microseconds|milliseconds|multiples of 100 microseconds): (\d+)|"
                    r"an NMT command is a number: \S+ is (\d+)|a hexadecimal number is written (0x[0-9A-Fa-f]+)|"
                    r"(?:no quotation marks|are told apart by /): (<[^;]+)")

@@ -29,8 +29,11 @@ MEANINGS = {
         "Choose a value within the limits; if it is right, the EDS is of a smaller device."),
     "E05": (
         "The sender can't send this message: it has no such TPDO, its mapping can't be written or has too few places, "
-        "or it has no inhibit time, event timer or SYNC start value to set.",
-        "Use another TPDO of the node, fewer sources, or 0 for INHIBIT, EVENT or the SYNC start value."),
+        "or it has no inhibit time, event timer or SYNC start value to set. In version 3 a mapping or a value that "
+        "can't be written serves where the data sheet has just that.",
+        "Use another TPDO of the node, fewer sources, or 0 for INHIBIT, EVENT or the SYNC start value; of a TPDO with "
+        "a fixed mapping, in version 3, the sources that it maps, in their order, and the values that the data sheet "
+        "gives it."),
     "E06": (
         "Two messages would be sent by the same TPDO; only the first of them by name that is clean is.",
         "Give the other one another TPDO, or make one message of both."),
@@ -46,18 +49,23 @@ MEANINGS = {
         "Let the sink name an entry as wide as its source, at the source's position."),
     "E10": (
         "The receiver has no RPDO left for this message, or none with as many places, or its mapping is read only (a "
-        "device with a fixed mapping): what it should act on would never arrive.",
-        "Send it several values in one message, or let another node take some of them."),
+        "device with a fixed mapping): what it should act on would never arrive. In version 3 an RPDO with a fixed "
+        "mapping or a fixed COB-ID takes a message that has just these; and one that a receive names has to fit.",
+        "Send it several values in one message, or let another node take some of them; in version 3 let the sources, "
+        "their order and the COB be those that the data sheet of the receiver fixes."),
     "E11": (
         "The receiver has to skip bits that are for others, and can't: its EDS allows no dummy of that width.",
         "Give it a sink for these bits too, or send the values for each receiver in a message of their own."),
     "E12": (
-        "Another message or another service has this identifier: two senders of one identifier disturb each other, and "
-        "a PDO on one of NMT, SDO or heartbeat is taken for a command or for a sign of life.",
-        "Set COB to 0, so that the plan finds one, or choose one from 181h on that is free."),
+        "Another message or another service has this identifier: two senders of one identifier disturb each other, "
+        "and a PDO on one of NMT, SDO or heartbeat is taken for a command or for a sign of life. In version 3 also: "
+        "the data sheet fixes another identifier for this TPDO.",
+        "Set COB to 0, so that the plan finds one or takes the fixed one, or choose one from 181h on that is free."),
     "E13": (
-        "No identifier is left to give to this message.",
-        "Join messages, or give some an explicit identifier that no other has."),
+        "No identifier is left to give to this message; or, in version 3, the one that its data sheet fixes is had by "
+        "another message, or restricted.",
+        "Join messages, or give some an explicit identifier that no other has; let the message with the fixed one be "
+        "the first by name, or give the other one another identifier."),
     "E14": (
         "CiA 301 reserves transmission types 241 to 251: what a device does with one is its own affair.",
         "Use 0 to 240 for messages at SYNC, 254 or 255 for those at events."),
@@ -93,6 +101,27 @@ MEANINGS = {
         "The TPDO waits for a SYNC with a number that none has, and so is never sent by a device that goes by the "
         "counter.",
         "Give start a number of at most the N of sync-counter, or that N a higher one."),
+    "W23": (
+        "The device sends this TPDO whatever the plan says: its data sheet has it on, and nothing may switch it off. "
+        "It takes time on the bus, and whoever listens to its identifier gets it.",
+        "Use it in a message, if anybody can use what it sends; else leave it, and see that no other message has its "
+        "identifier (E15) and that the load allows for it."),
+    "W24": (
+        "The device takes frames by this RPDO that are meant for others, and writes what they bring into the entries "
+        "that its data sheet maps: an output or a setpoint moves by another node's value.",
+        "Give the message another identifier, or let it be one for this node too."),
+    "E26": (
+        "The device refuses the write with 06090031h or 06090032h; where a manager boots it with these files, its "
+        "boot fails there and it isn't started. Mostly an inhibit time, an event time or a transmission type is "
+        "beyond what the vendor allows.",
+        "Choose a value within the limits that cobtool check names. Where it is the write that configures the PDO "
+        "itself, use another PDO of the node."),
+    "W28": (
+        "The time within which the node expects frames of this message isn't set: the node doesn't take the message, "
+        "or the RPDO by which it does has no event time that can be written. Where the sender falls silent, the node "
+        "doesn't notice by that.",
+        "Give the node a sink of the message, or name another RPDO in receive; else let the node watch the sender's "
+        "heartbeat (1016h), and set the time to 0."),
 }
 
 

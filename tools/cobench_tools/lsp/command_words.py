@@ -2,8 +2,9 @@
 
 MEANINGS = {
     "version": (
-        "1 or 2: the version of the script. In version 1 no node is mandatory, and the manager starts each node by "
-        "itself; in version 2 it starts the network as a whole"),
+        "1, 2 or 3: the version of the script. In version 1 no node is mandatory, and the manager starts each node by "
+        "itself; from version 2 on it starts the network as a whole, in version 3 node by node. In version 3 frames have "
+        "their stuff bits, and PDOs are taken as vendors make them"),
     "bitrate": (
         "10, 20, 50, 125, 250, 500 or 1000 kbit/s"),
     "horizon": (
@@ -23,7 +24,7 @@ MEANINGS = {
         "ID 1 to 127; a known ID gets the new name and EDS, and keeps its need and its parameters; a new one is "
         "optional. Names of nodes differ"),
     "need": (
-        "in version 2: the manager starts the network once each mandatory node is configured (CiA 302)"),
+        "from version 2 on: the manager starts the network once each mandatory node is configured (CiA 302)"),
     "drop-node": (
         "takes a node away, with its need and its parameters"),
     "param": (
@@ -34,12 +35,12 @@ MEANINGS = {
         "node ID sends a message of that name: its TPDO 1 to 512, transmission type TYPE 0 to 255, inhibit time "
         "INHIBIT 0 to 65,535 in multiples of 100 microseconds, event timer EVENT 0 to 65,535 ms, identifier COB 1h to "
         "7FFh, or 0 for one that the plan gives. A known name gets the new numbers, and keeps its SYNC start value, "
-        "its sources and its sinks"),
+        "its sources, its sinks and its receives"),
     "start": (
         "the SYNC start value (CiA 301): the counter of the SYNC from which on the sender counts SYNC messages, 1 to "
         "240; 0 for any"),
     "drop-message": (
-        "takes a message away, with its start value, its sources and its sinks"),
+        "takes a message away, with its start value, its sources, its sinks and its receives"),
     "source": (
         "at position POS, 1 to 64, the message carries that entry of its sender; the source that stands there is "
         "replaced"),
@@ -50,6 +51,12 @@ MEANINGS = {
         "replaced. Other nodes may have sinks at the same POS"),
     "unsink": (
         "takes the sink of a node at a position away"),
+    "receive": (
+        "in version 3: node ID takes the message by its RPDO 1 to 512, or, with 0, by one that the plan gives; MS is the "
+        "event time of that RPDO, 0 to 65,535 ms, within which a frame is expected, and 0 leaves it as it is. A known pair "
+        "of message and node gets the new numbers"),
+    "unreceive": (
+        "in version 3: takes the receive of a node away"),
     "event": (
         "at TIME, 0 to 10,000,000 microseconds, the node's application sets an entry. K is 1 to 10,000; a known K is "
         "replaced. INDEX as in param; the node's power is switched; the manager sends an NMT command: 1 start, 2 "

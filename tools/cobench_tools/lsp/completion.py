@@ -11,7 +11,7 @@ from ..forms import CHOICES, FORMS, usage
 from ..limits import LIMITS
 from ..meaning import SERVICES
 from ..project import RATES
-from ..wiring import TPDO, pdo_numbers
+from ..wiring import RPDO, TPDO, pdo_numbers
 from . import command_words, entries
 from .asked import AskedPlace, Params, Server
 from .outline import Row, kinds_of, number
@@ -118,7 +118,8 @@ def services(cursor):
 
 
 def versions(cursor):
-    return [item("1", VALUE, "each node is started by itself"), item("2", VALUE, "the network is started as a whole")]
+    return [item("1", VALUE, "each node is started by itself"), item("2", VALUE, "the network is started as a whole"),
+            item("3", VALUE, "PDOs as vendors make them; unused ones are off")]
 
 
 def files(cursor):
@@ -159,10 +160,18 @@ def nodes(cursor):
     if cursor.name == "node":
         free = next((each for each in range(1, 128) if each not in project.nodes and each != project.manager[0]), None)
         yield from [item(str(free), VALUE, "free")] if free else []
-    message = project.messages.get(cursor.row.word("MESSAGE")) if cursor.name == "sink" else None
     for node, (name, eds) in sorted(project.nodes.items()):
-        if message is None or message.node != node:
+        if may_be_named(cursor, node):
             yield item(str(node), VARIABLE, f"{name} ({eds})", also=name)
+
+
+def may_be_named(cursor, node):
+    """Whether a node may stand in a command: of a sink all but the sender, of a receive those that take the message."""
+    message = cursor.project.messages.get(cursor.row.word("MESSAGE"))
+    if message is None or cursor.name not in ("sink", "receive", "unreceive"):
+        return True
+    known = {"receive": {taker for _, taker in message.sinks}, "unreceive": set(message.receives)}
+    return node in known[cursor.name] if cursor.name in known else node != message.node
 
 
 def all_or_nodes(cursor):
@@ -203,13 +212,24 @@ def tpdos(cursor):
     yield from (item(str(each), VALUE, f"sends {used[each]}") for each in known if each in used)
 
 
+def rpdos(cursor):
+    """The RPDOs of a node, and which message has each."""
+    node, state = number(cursor.words[2]), cursor.state
+    yield item("0", VALUE, "the plan gives one")
+    if node not in cursor.project.nodes:
+        return
+    taken = {each.rpdos[node][0]: name for name, each in state.evidence.plan.messages.items() if not each.faults and node in each.rpdos}
+    for each in pdo_numbers(state.evidence.device(node), RPDO):
+        yield item(str(each), VALUE, f"takes {taken[each]}" if each in taken else "free")
+
+
 def types(cursor):
     return [item(str(kind), VALUE, words) for kind, words in TYPES]
 
 
 def none_or_limits(cursor):
     low, high = LIMITS[cursor.kind]
-    unit = {"INHIBIT": "100 us", "EVENT": "ms"}[cursor.kind]
+    unit = {"INHIBIT": "100 us", "EVENT": "ms", "MS": "ms"}[cursor.kind]
     return [item("0", VALUE, f"none; {low} to {high:,} in {unit}")]
 
 
@@ -290,6 +310,7 @@ MAKERS = {
     "COMMAND": commands, "WHAT": kinds_of_events, "FILE": files, "NEED": choices, "ON_OFF": choices, "RATE": rates,
     "CMD": services, "VERSION": versions, "EDS": sheets, "NAME": names, "MESSAGE": messages, "ID": nodes,
     "TO": all_or_nodes, "K": events, "POS": positions, "TPDO": tpdos, "TYPE": types, "INHIBIT": none_or_limits,
-    "EVENT": none_or_limits, "COB": identifiers, "INDEX": indexes, "SUB": subs, "TEXT": texts,
+    "EVENT": none_or_limits, "RPDO": rpdos, "MS": none_or_limits, "COB": identifiers, "INDEX": indexes, "SUB": subs,
+    "TEXT": texts,
 }
-WITHOUT_STATE = "COMMAND", "WHAT", "FILE", "NEED", "ON_OFF", "RATE", "CMD", "VERSION", "TYPE", "INHIBIT", "EVENT", "COB"
+WITHOUT_STATE = "COMMAND", "WHAT", "FILE", "NEED", "ON_OFF", "RATE", "CMD", "VERSION", "TYPE", "INHIBIT", "EVENT", "MS", "COB"

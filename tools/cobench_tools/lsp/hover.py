@@ -4,12 +4,12 @@ from __future__ import annotations
 from .. import safe_text
 from ..device import BITS, object_name
 from ..forms import FORMS, usage
-from ..load import Analysis
-from ..matrix import when
+from ..load import Analysis, most
+from ..matrix import when, within
 from ..meaning import PREDEFINED
 from ..picture import STATES
 from ..plan import SERVICES
-from ..traffic import most_bits, time_text, traffic_of
+from ..traffic import time_text, traffic_of
 from ..wiring import Wiring
 from . import codes, command_words, entries, sheet_places
 from .asked import AskedPlace, Params, Server
@@ -124,7 +124,14 @@ def of_message(name, state):
         faults = [f"- {each.words}" for each in planned.faults]
         return "  \n".join([*lines, "it has errors, and is in no PDO:", *faults])
     lines[-1] += f", COB-ID {planned.identifier:03X}h"
-    return "  \n".join(lines + of_bus(name, state)) + "\n\n" + layout(message, state)
+    return "  \n".join(lines + taken_by(planned, state) + of_bus(name, state)) + "\n\n" + layout(message, state)
+
+
+def taken_by(planned, state):
+    """By which RPDO each consumer takes a message, and within which time it expects one."""
+    takers = [f"{state.project.nodes[node][0]} (RPDO {number}{within(planned.milliseconds(node))})"
+              for node, (number, _) in sorted(planned.rpdos.items())]
+    return [f"taken by {safe_text.markdown(', '.join(takers))}"] if takers else []
 
 
 def layout(message, state):
@@ -147,7 +154,7 @@ def network_of(state):
         nodes = {number: state.evidence.node(number) for number in state.project.nodes}
         network = Wiring(state.answered, nodes)
         found = traffic_of(network)
-        state.network = network, found, Analysis(found, 1000 // state.project.bitrate, most_bits)
+        state.network = network, found, Analysis(found, 1000 // state.project.bitrate, most)
     return state.network
 
 

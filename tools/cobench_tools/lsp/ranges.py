@@ -16,9 +16,14 @@ OF_CODE = {
     "W19": ("TEXT",), "W21": ("TEXT",), "E05": ("TPDO", "START", "INDEX"), "E06": ("TPDO",), "E07": ("NAME",),
     "E08": ("INDEX", "SUB"), "E09": ("INDEX", "SUB"), "E10": ("ID",), "E11": ("ID",), "E12": ("COB",), "E13": ("COB",),
     "E14": ("TYPE",), "E15": ("COB",), "W17": ("TYPE",), "W18": ("TYPE",), "W22": ("START",),
+    "W23": ("ID", "NAME"), "W24": ("ID", "NAME"), "W28": ("RPDO", "MS"),
     "failed": ("ID", "NAME"), "unconfigured": ("ID", "NAME"), "no-source": ("NAME",), "no-sink": ("NAME",),
-    "late-event": ("TIME",), "bit-rate": ("RATE",),
+    "late-event": ("TIME",), "bit-rate": ("RATE",), "receive-time": ("MS",),
 }
+
+# Those of a write of a PDO that is outside the limits of its entry (E26), by the sub-index of a communication object.
+OF_LIMIT = {"01": ("COB",), "02": ("TYPE",), "03": ("INHIBIT",), "05": ("EVENT", "MS"), "06": ("START",)}
+OF_MAPPING = "INDEX", "SUB"
 
 
 def kinds_of(words: list[str]) -> list[str]:
@@ -53,12 +58,20 @@ def of_finding(finding: Finding, row: str, number: int) -> dict[str, Any]:
     words = [bare(row)[start:end] for start, end in words_in(row)]
     if not words or words[0] not in FORMS:
         return of_value(row, number)
-    kinds = kinds_of(words)
-    wanted = [place for place, kind in enumerate(kinds, 1) if kind in OF_CODE.get(finding.code, ())]
+    kinds, about = kinds_of(words), kinds_about(finding)
+    wanted = [place for place, kind in enumerate(kinds, 1) if kind in about]
     if not wanted:
         return of_row(row, number)
     last = len(words) - 1 if kinds[wanted[-1] - 1] == "TEXT" else wanted[-1]
     return of_words(row, number, wanted[0], last)
+
+
+def kinds_about(finding: Finding) -> tuple[str, ...]:
+    """What the words are that a finding is about."""
+    if finding.code != "E26":
+        return OF_CODE.get(finding.code, ())
+    _, _, _, index, sub = finding.words.split()
+    return OF_MAPPING if int(index, 16) & 0x200 else OF_LIMIT.get(sub, ())
 
 
 def of_value(row: str, number: int) -> dict[str, Any]:

@@ -11,7 +11,7 @@ from .sheet_places import headers
 
 STRUCT, MODULE, EVENT_KIND, INTERFACE, FIELD = 23, 2, 24, 11, 8
 KINDS = {SHEET: STRUCT, NODE: MODULE, MESSAGE: INTERFACE, EVENT: EVENT_KIND}
-PARTS = {"source": "MESSAGE", "sink": "MESSAGE", "start": "MESSAGE", "param": "ID", "need": "ID"}
+PARTS = {"source": "MESSAGE", "sink": "MESSAGE", "receive": "MESSAGE", "start": "MESSAGE", "param": "ID", "need": "ID"}
 MOST = 2000
 
 

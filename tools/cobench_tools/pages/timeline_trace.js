@@ -46,6 +46,7 @@ class Trace {
     this.end = content.end;
     this.known = content.known < content.end ? content.known : Infinity;   // behind this moment it is of the trace before
     this.bit = content.bit;
+    this.isStuffed = Boolean(content.stuffed);      // the frames have their stuff bits
     this.kinds = content.kinds;
     this.lanes = content.lanes.map(([key, name, title, planned, gone]) => ({
       key, name, title, planned: Boolean(planned), gone: Boolean(gone),
@@ -59,7 +60,7 @@ class Trace {
   }
 
   sortOfRow([identifier, kind, lane, size, text, bits]) {
-    return { identifier, kind, lane: this.laneOf.get(lane), size, text, slot: (bits || 47 + 8 * size) * this.bit };
+    return { identifier, kind, lane: this.laneOf.get(lane), size, text, bits, slot: (bits || 47 + 8 * size) * this.bit };
   }
 
   takeFrames(windows, gone) {
@@ -175,7 +176,7 @@ class Trace {
       const sort = this.sorts[this.sort[i]];
       if (this.lanes[sort.lane].planned) continue;
       this.counts[sort.kind][this.stepOf(this.time[i])]++;
-      this.fill(this.slots[sort.kind], Math.max(this.time[i] - sort.slot, 0), this.time[i]);
+      this.fill(this.slots[sort.kind], Math.max(this.time[i] - this.slot(i), 0), this.time[i]);
     }
   }
 
@@ -220,7 +221,11 @@ class Trace {
     return next.length ? Math.min(...next) : null;
   }
   sortOf(frame) { return this.sorts[this.sort[frame]] || this.goneSorts[this.sort[frame] - this.sorts.length]; }
-  slot(frame) { return this.sortOf(frame).slot; }
+  /** For how long a frame has the bus. */
+  slot(frame) {
+    const sort = this.sortOf(frame);
+    return this.isStuffed && !sort.bits ? exactBits(sort.identifier, this.bytes(frame)) * this.bit : sort.slot;
+  }
   identifier(frame) { return hexadecimal(this.sortOf(frame).identifier, 3); }
 
   bytes(frame) {

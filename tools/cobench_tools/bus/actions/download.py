@@ -15,9 +15,9 @@ SUMMARY = "configure the nodes of a script and start them, as its manager does"
 AFTER = """Does with each node what the manager of SCRIPT does at its boot: it compares who it
 is (1000h, 1018h) and writes its concise DCF in order. Then each value is read back,
 and the node is started: by version 1 each by itself once it is configured, by
-version 2 all by one command once all mandatory ones are. A node that isn't
-configured is never started: where one failed that needn't be there, the others are
-started one by one.
+version 2 all by one command once all mandatory ones are, and by version 3 then each
+by itself. A node that isn't configured is never started: where one failed that
+needn't be there, the others are started one by one.
 
 What goes wrong ends the boot of that node, and is reported with the line of SCRIPT
 that gives the value, and how far the writes came:
@@ -84,7 +84,7 @@ def report(plan: planned.Planned, network: Network, with_start: bool) -> str:
     for each in network.downloads:
         if not each.finding:
             lines.append(f"{plan.name(each.node)}: {state_text(each)}")
-    if with_start and network.starts_whole and network.is_whole and network.missing():
+    if with_start and network.version > 1 and network.is_whole and network.missing():
         names = ", ".join(map(plan.name, network.missing()))
         lines.append(f"the network isn't started: mandatory and not configured: {names}")
     done, started = (sum(each) for each in zip(*((one.is_configured, one.is_started) for one in network.downloads)))

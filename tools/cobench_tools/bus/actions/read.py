@@ -3,6 +3,7 @@ import argparse
 
 from ... import tool, values
 from .. import connection, known, sdo_block, timing, value
+from ..progress import Progress
 from ..sdo_client import SdoClient
 from ..transfer import Failed
 
@@ -28,8 +29,8 @@ def arguments(parser: argparse.ArgumentParser) -> None:
 def run(options: argparse.Namespace) -> int:
     node, key = known.Known(options.node, options), known.key_of(options)
     kind = node.kind(key, options.type)
-    with connection.opened(options, node.bitrate) as bus:
-        client = SdoClient(bus, node.number, timing.seconds_of(options))
+    with connection.opened(options, node.bitrate) as bus, Progress(None, "bytes") as progress:
+        client = SdoClient(bus, node.number, timing.seconds_of(options), progress.step)
         try:
             data = (sdo_block.read if options.block else SdoClient.read)(client, key, value.size_of(kind))
         except Failed as why:

@@ -4,6 +4,7 @@ from typing import List, Tuple
 
 from ... import tool, values
 from .. import asked, connection, known, neighbours, sdo_block, timing, value
+from ..progress import Progress
 from ..sdo_client import SdoClient
 from ..transfer import Failed, Key
 
@@ -75,9 +76,10 @@ def run(options: argparse.Namespace) -> int:
         others = neighbours.listened(bus, options, node.manager)
         asked.tell(others.of_masters())
         asked.confirm(options, f"write {what}")
-        client = SdoClient(bus, node.number, timing.seconds_of(options))
         try:
-            (sdo_block.write if options.block else SdoClient.write)(client, key, data)
+            with Progress(len(data), "bytes") as progress:
+                client = SdoClient(bus, node.number, timing.seconds_of(options), progress.step)
+                (sdo_block.write if options.block else SdoClient.write)(client, key, data)
         except Failed as why:
             tool.say(f"{what}: {why.text}")
             return tool.FOUND

@@ -1,23 +1,23 @@
-use Rattle.std.proofs.Common.{◌≡◌, ◌∙◌, ℕ, List, [], ◌∷◌, ap, sym, rules}
+use Rattle.std.proofs.Common.{◌≡◌, ◌∙◌, ℕ, [], ◌∷◌, ap, sym, rules}
 use Rattle.std.specs.FinMap.{entries}
+use Rattle.co_project.specs.declared.node.Node.{Node}
 use Rattle.co_project.specs.Project.{Content}
-use Rattle.project_messages.specs.Messages.{by_name}
 use Rattle.project_plan.specs.Library.{Read}
 use Rattle.co_diag.proofs.DeviceLemmas.{all_read, one_more}
 use Rattle.co_diag.proofs.devices.read_all.Goals as goal
 
-pub loop-name-preserved : goal.loop-name-preserved
-loop-name-preserved c =
-    let e : List ℕ × List ℕ = (c.in-Some.name.now.items, c.in-Some._text.now) in
-    let left : by_name c.loop-name.name-iterator ≡ e ∷ by_name c.next.new.self = search rules in
+pub loop-id-preserved : goal.loop-id-preserved
+loop-id-preserved c =
+    let e : ℕ × Node = (c.in-Some._id.now, c.in-Some.node.now) in
+    let left : c.loop-id._id-iterator ≡ e ∷ c.next.new.self = search rules in
     record {
-      project = ap (λ (r : Read). r.project) c.in_ok-read.ensures.ok ∙ c.loop-name.invariant.project;
-      read = one_more c.loop-name.library c.read.new.self e c.deref.result.now (by_name c.next.new.self) _ _ left
-          c.deref.ensures.value c.in_ok-read.ensures.ok c.in_ok-read.ensures.read c.loop-name.invariant.read;
+      project = ap (λ (r : Read). r.project) c.in_ok-read.ensures.ok ∙ c.loop-id.invariant.project;
+      read = one_more c.loop-id.library c.read.new.self e c.as_slice.result.now c.next.new.self _ _ left
+          c.as_slice.ensures c.in_ok-read.ensures.ok c.in_ok-read.ensures.read c.loop-id.invariant.read;
     }
 
 pub returns-clause-read : goal.returns-clause-read
 returns-clause-read c =
-    let ended : by_name c.loop-name.name-iterator ≡ [] = search rules in
-    all_read c.loop-name.library (by_name c.loop-name.name-iterator) _ ended (ap (λ (p : Content). entries p.texts)
-    (sym c.loop-name.invariant.project)) c.loop-name.invariant.read
+    let ended : c.loop-id._id-iterator ≡ [] = search rules in
+    all_read c.loop-id.library c.loop-id._id-iterator _ ended (ap (λ (p : Content). entries p.nodes)
+    (sym c.loop-id.invariant.project)) c.loop-id.invariant.read

@@ -1,6 +1,6 @@
 use Rattle.std.proofs.Common.{◌≡◌, ◌++◌, take}
 use Rattle.pdo_links.specs.Tables.{AreMapped}
-use Rattle.pdo_links.specs.Writes.{mapped_writes}
+use Rattle.pdo_links.specs.PdoWrites.{mapped_writes}
 use Rattle.pdo_links.proofs.mapping.put_entries.Given as goal
 
 -- the entries so far are written

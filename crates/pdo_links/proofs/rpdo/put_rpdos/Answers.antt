@@ -11,7 +11,8 @@ use Rattle.pdo_plan.specs.declared.consumer.Consumer.{Consumer}
 use Rattle.pdo_plan.specs.Plan.{clean, IsNumbered, IsWithin}
 use Rattle.pdo_links.specs.declared.taken.Taken.{Taken}
 use Rattle.pdo_links.specs.Tables.{AreValues, IsTableOf}
-use Rattle.pdo_links.specs.Writes.{rpdo_of, rpdo_writes, by_number}
+use Rattle.pdo_links.specs.PdoWrites.{rpdo_of}
+use Rattle.pdo_links.specs.Writes.{rpdo_writes, by_number}
 use Rattle.pdo_links.proofs.Numbered.{append_none, Takes, takes, there}
 use Rattle.pdo_links.proofs.Rising.{by_table}
 use Rattle.pdo_links.proofs.Sizes.{few_rpdos}

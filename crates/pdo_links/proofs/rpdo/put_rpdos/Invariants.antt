@@ -8,7 +8,8 @@ use Rattle.pdo_plan.specs.declared.consumer.Consumer.{Consumer}
 use Rattle.pdo_plan.specs.Plan.{clean, IsMadeFor}
 use Rattle.pdo_links.specs.declared.taken.Taken.{Taken}
 use Rattle.pdo_links.specs.Tables.{AreValues}
-use Rattle.pdo_links.specs.Writes.{rpdo_of, rpdo_writes, by_number}
+use Rattle.pdo_links.specs.PdoWrites.{rpdo_of}
+use Rattle.pdo_links.specs.Writes.{rpdo_writes, by_number}
 use Rattle.pdo_links.proofs.Numbered.{Takes}
 use Rattle.pdo_links.proofs.rpdo.put_rpdos.Given as goal
 

@@ -1,5 +1,5 @@
 use Rattle.pdo_links.specs.declared.taken.Taken.{Taken}
-use Rattle.pdo_links.specs.Writes.{rpdo_of}
+use Rattle.pdo_links.specs.PdoWrites.{rpdo_of}
 use Rattle.pdo_links.proofs.Tabled.{none_tabled, skipped, noted}
 use Rattle.pdo_links.proofs.rpdo.rpdos_of.Goals as goal
 use Rattle.pdo_links.proofs.rpdo.rpdos_of.Goals.{in-Some+in_ok-put_first, in_default}

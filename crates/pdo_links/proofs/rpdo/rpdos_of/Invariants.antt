@@ -3,7 +3,7 @@ use Rattle.std.specs.Prelude.{filter_map}
 use Rattle.pdo_links.specs.declared.taken.Taken.{Taken}
 use Rattle.pdo_plan.specs.Plan.{clean}
 use Rattle.pdo_links.specs.Tables.{IsTableOf}
-use Rattle.pdo_links.specs.Writes.{rpdo_of}
+use Rattle.pdo_links.specs.PdoWrites.{rpdo_of}
 use Rattle.pdo_links.proofs.rpdo.rpdos_of.Given as goal
 
 abbrev pub invariant-loop-planned : goal.invariant-loop-planned

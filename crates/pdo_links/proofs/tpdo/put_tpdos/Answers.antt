@@ -9,7 +9,8 @@ use Rattle.concise_dcf.specs.declared.write.Write.{Write}
 use Rattle.pdo_plan.specs.declared.clean.Clean.{Clean}
 use Rattle.pdo_plan.specs.Plan.{clean, IsWithin}
 use Rattle.pdo_links.specs.Tables.{AreValues, IsTableOf}
-use Rattle.pdo_links.specs.Writes.{tpdo_of, tpdo_writes, by_number}
+use Rattle.pdo_links.specs.PdoWrites.{tpdo_of}
+use Rattle.pdo_links.specs.Writes.{tpdo_writes, by_number}
 use Rattle.pdo_links.proofs.Numbered.{append_none, Sends, sends, there}
 use Rattle.pdo_links.proofs.Rising.{by_table}
 use Rattle.pdo_links.proofs.Sizes.{few_tpdos}

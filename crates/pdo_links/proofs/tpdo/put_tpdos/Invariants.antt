@@ -5,7 +5,8 @@ use Rattle.concise_dcf.specs.declared.write.Write.{Write}
 use Rattle.pdo_plan.specs.declared.clean.Clean.{Clean}
 use Rattle.pdo_plan.specs.Plan.{clean, IsMadeFor}
 use Rattle.pdo_links.specs.Tables.{AreValues}
-use Rattle.pdo_links.specs.Writes.{tpdo_of, tpdo_writes, by_number}
+use Rattle.pdo_links.specs.PdoWrites.{tpdo_of}
+use Rattle.pdo_links.specs.Writes.{tpdo_writes, by_number}
 use Rattle.pdo_links.proofs.Numbered.{Sends}
 use Rattle.pdo_links.proofs.tpdo.put_tpdos.Given as goal
 

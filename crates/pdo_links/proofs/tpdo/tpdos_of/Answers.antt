@@ -1,6 +1,6 @@
 use Rattle.std.proofs.Common.{Bor}
 use Rattle.pdo_plan.specs.declared.clean.Clean.{Clean}
-use Rattle.pdo_links.specs.Writes.{tpdo_of}
+use Rattle.pdo_links.specs.PdoWrites.{tpdo_of}
 use Rattle.pdo_links.proofs.Tabled.{none_tabled, skipped, noted}
 use Rattle.pdo_links.proofs.tpdo.tpdos_of.Goals as goal
 use Rattle.pdo_links.proofs.tpdo.tpdos_of.Goals.{in-Some+in_ok-put_first, in_default}

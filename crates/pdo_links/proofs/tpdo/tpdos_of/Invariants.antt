@@ -3,7 +3,7 @@ use Rattle.std.specs.Prelude.{filter_map}
 use Rattle.pdo_plan.specs.declared.clean.Clean.{Clean}
 use Rattle.pdo_plan.specs.Plan.{clean}
 use Rattle.pdo_links.specs.Tables.{IsTableOf}
-use Rattle.pdo_links.specs.Writes.{tpdo_of}
+use Rattle.pdo_links.specs.PdoWrites.{tpdo_of}
 use Rattle.pdo_links.proofs.tpdo.tpdos_of.Given as goal
 
 abbrev pub invariant-loop-planned : goal.invariant-loop-planned

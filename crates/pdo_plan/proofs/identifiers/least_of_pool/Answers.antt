@@ -1,17 +1,17 @@
-use Rattle.std.proofs.Common.{◌≡◌, ℕ, not, true, Bool, Some, None, rules, arith}
-use Rattle.std.specs.BTreeSet.{contains}
-use Rattle.std.specs.Ordering.{nat_cmp}
+use Rattle.std.proofs.Common.{◌≡◌, ℕ, true, Bool, Some, None, rules, arith}
+use Rattle.pdo_plan.specs.Plan.{is_free_identifier}
+use Rattle.pdo_plan.specs.Taken.{had_in}
 use Rattle.pdo_plan.proofs.LeastLemmas.{is_least_free}
 use Rattle.pdo_plan.proofs.identifiers.least_of_pool.Goals as goal
 
-pub returns-then-not-contains : goal.returns-then-not-contains
-returns-then-not-contains c =
-    let is_free : ℕ → Bool = λ n. not (contains nat_cmp c.args.identifiers.now n) in
-    let free : is_free c.loop-number.number-counter ≡ true = search rules in
-    is_least_free is_free 0x681 95 (Some c.loop-number.number-counter)
+pub returns-then-is_free : goal.returns-then-is_free
+returns-then-is_free c =
+    let is_free : ℕ → Bool = is_free_identifier (had_in c.args.taken.now) in
+    let free : is_free c.loop-number.number ≡ true = search rules in
+    is_least_free is_free 0x681 95 (Some c.loop-number.number)
     (omega arith, omega arith, free, c.loop-number.invariant)
 
 pub returns : goal.returns
 returns c =
-    let is_free : ℕ → Bool = λ n. not (contains nat_cmp c.args.identifiers.now n) in
+    let is_free : ℕ → Bool = is_free_identifier (had_in c.args.taken.now) in
     is_least_free is_free 0x681 95 None (λ k low below. c.loop-number.invariant k low (omega arith))

@@ -1,8 +1,8 @@
-use Rattle.std.proofs.Common.{◌≡◌, ℕ, ◌<◌, ◌≤◌, not, false}
-use Rattle.std.specs.Ordering.{nat_cmp}
-use Rattle.std.specs.BTreeSet.{contains}
+use Rattle.std.proofs.Common.{◌≡◌, ℕ, ◌<◌, ◌≤◌, false}
+use Rattle.pdo_plan.specs.Plan.{is_free_identifier}
+use Rattle.pdo_plan.specs.Taken.{had_in}
 use Rattle.pdo_plan.proofs.identifiers.least_of_pool.Given as goal
 
 -- none so far is free
 abbrev pub invariant-loop-number : goal.invariant-loop-number
-invariant-loop-number l = (k : ℕ) → 0x681 ≤ k → k < l.number-counter → not (contains nat_cmp l.identifiers k) ≡ false
+invariant-loop-number l = (k : ℕ) → 0x681 ≤ k → k < l.number → is_free_identifier (had_in l.taken) k ≡ false

@@ -6,10 +6,10 @@ use Rattle.project_messages.specs.declared.linked.Linked.{Linked}
 use Rattle.project_messages.specs.Messages.{by_name, IsLinked}
 use Rattle.pdo_plan.specs.declared.planned_message.PlannedMessage.{PlannedMessage}
 use Rattle.pdo_plan.specs.Plan.{had_by, clean, plan_after, plan_of, judged_message, planned_message, IsWithin}
+use Rattle.pdo_plan.specs.Plan.{withheld_by}
 use Rattle.pdo_stations.specs.Devices.{devices_of}
 use Rattle.pdo_stations.specs.Shown.{nodes_of}
-use Rattle.pdo_stations.specs.Stations.{devices_in}
-use Rattle.pdo_plan.specs.Taken.{had_in}
+use Rattle.pdo_plan.specs.Taken.{devices_known, had_in}
 use Rattle.pdo_plan.proofs.JudgedLemmas.{judged_within}
 use Rattle.pdo_plan.proofs.PlanLemmas.{had_step, plan_step, within_step}
 use Rattle.pdo_plan.proofs.planning.plan.Goals as goal
@@ -20,15 +20,18 @@ OfLinked e = IsLinked e.1
 pub messages-init : goal.messages-init
 unfolding plan_of
 messages-init c =
-    let devices = devices_of (nodes_of c.args.nodes.now) in
+    let devices = devices_of c.args.is_three (nodes_of c.args.nodes.now) in
+    let withheld = withheld_by devices (entries c.args.messages.now) in
     let none : c.new-plan.result.items ≡ [] = c.new-plan.ensures.items in
     let all : by_name c.into_iter-name-iterator.result ≡ entries c.args.messages.now = search rules in
     let kept : All OfLinked (entries c.args.messages.now) =
     subst (All OfLinked) c.iter-name-items.ensures.messages c.iter-name-items.ensures.limits in
     record {
-      whole = ap (λ (ps : List PlannedMessage). ps ++ plan_after devices (clean ps)
-          (by_name c.into_iter-name-iterator.result)) none ∙ ap (plan_after devices []) all;
-      taken = c.in_ok-taken.ensures ∙ ap (λ (ps : List PlannedMessage). had_by (clean ps)) (sym none);
+      whole = ap (λ (ps : List PlannedMessage). ps ++ plan_after withheld devices (clean ps)
+          (by_name c.into_iter-name-iterator.result)) none ∙ ap (plan_after withheld devices []) all;
+      stations = c.in_ok-taken.ensures.stations ∙ c.in_ok-stations.ensures;
+      taken = c.in_ok-taken.ensures.had
+          ∙ ap (λ d. had_by (withheld_by d (entries c.args.messages.now)) []) c.in_ok-stations.ensures ∙ ap (λ (ps : List PlannedMessage). had_by withheld (clean ps)) (sym none);
       within = subst (λ (ps : List PlannedMessage). All IsWithin (clean ps)) (sym none) (All-nil IsWithin);
       rest = subst (All OfLinked) (sym all) kept;
     }
@@ -45,11 +48,12 @@ take_clean-requires c =
     let left : by_name c.messages.name-iterator ≡ m ∷ by_name c.next.new.self = search rules in
     let kept = All-head OfLinked m (by_name c.next.new.self) (subst (All OfLinked) left c.messages.invariant.rest) in
     rw c.in_ok-outcome.ensures (judged_within (had_in c.messages.taken)
-    (devices_in c.in_ok-stations.stations) c.in-Some.linked.now kept)
+    (devices_known c.messages.taken) c.in-Some.linked.now kept)
 
 pub messages-preserved : goal.messages-preserved
 messages-preserved c =
-    let devices = devices_of (nodes_of c.args.nodes.now) in
+    let devices = devices_of c.args.is_three (nodes_of c.args.nodes.now) in
+    let withheld = withheld_by devices (entries c.args.messages.now) in
     let ps : List PlannedMessage = c.messages.plan.items in
     let m : List ℕ × Linked = (c.in-Some.name.now.items, c.in-Some.linked.now) in
     let p : PlannedMessage = record { name = c.in_ok-name.name; outcome = c.in_ok-outcome.outcome } in
@@ -57,21 +61,22 @@ messages-preserved c =
     let left : by_name c.messages.name-iterator ≡ m ∷ by_name c.next.new.self = search rules in
     let named : c.in_ok-name.name ≡ m.0 = c.in_ok-name.ensures ∙ c.deref.ensures.value in
     let judged_is : c.in_ok-outcome.outcome ≡ judged_message (had_in c.messages.taken) devices m.1 =
-    c.in_ok-outcome.ensures ∙ ap (λ d. judged_message (had_in c.messages.taken) d m.1) c.in_ok-stations.ensures in
+    c.in_ok-outcome.ensures ∙ ap (λ d. judged_message (had_in c.messages.taken) d m.1) c.messages.invariant.stations in
     let is : p ≡ planned_message (had_in c.messages.taken) devices m =
     λ i. record { name = named i; outcome = judged_is i } in
-    let step = plan_step devices ps p (had_in c.messages.taken) m (by_name c.next.new.self) c.messages.invariant.taken
+    let step = plan_step withheld devices ps p (had_in c.messages.taken) m (by_name c.next.new.self) c.messages.invariant.taken
     is in
     let within = judged_within (had_in c.messages.taken) devices m.1 (All-head OfLinked m (by_name c.next.new.self)
     (subst (All OfLinked) left c.messages.invariant.rest)) in
     record {
       whole =
-          ap (λ (xs : List PlannedMessage). xs ++ plan_after devices (clean xs) (by_name c.next.new.self)) pushed
-          ∙ step ∙ ap (λ (ms : List (List ℕ × Linked)). ps ++ plan_after devices (clean ps) ms) (sym left)
+          ap (λ (xs : List PlannedMessage). xs ++ plan_after withheld devices (clean xs) (by_name c.next.new.self)) pushed
+          ∙ step ∙ ap (λ (ms : List (List ℕ × Linked)). ps ++ plan_after withheld devices (clean ps) ms) (sym left)
           ∙ c.messages.invariant.whole;
-      taken = had_step ps p (had_in c.messages.taken)
-          (had_in c.take_clean.new.taken) c.messages.invariant.taken c.in_ok-take_clean.ensures
-          ∙ ap (λ (xs : List PlannedMessage). had_by (clean xs)) (sym pushed);
+      stations = c.in_ok-take_clean.ensures.stations ∙ c.messages.invariant.stations;
+      taken = had_step withheld ps p (had_in c.messages.taken)
+          (had_in c.take_clean.new.taken) c.messages.invariant.taken c.in_ok-take_clean.ensures.had
+          ∙ ap (λ (xs : List PlannedMessage). had_by withheld (clean xs)) (sym pushed);
       within = subst (λ (xs : List PlannedMessage). All IsWithin (clean xs)) (sym pushed)
           (within_step ps p c.messages.invariant.within (rw judged_is within));
       rest = All-tail OfLinked m (by_name c.next.new.self) (subst (All OfLinked) left c.messages.invariant.rest);

@@ -3,41 +3,37 @@ use Rattle.kept_values.specs.Shelved.{Single}
 use Rattle.kept_values.specs.Stale.{AreBrought}
 use Rattle.kept_parts.specs.Kept.{kept_inputs, HaveNoMark, IsOf}
 use Rattle.project_parts.specs.Given.{inputs_of, plan_from, same_part}
+use Rattle.project_parts.specs.Offered.{offered_plan}
 use Rattle.project_parts.specs.Reached.{of_nodes}
 use Rattle.project_parts.specs.declared.part.Part.TheVariants as part
 use Rattle.kept_parts.specs.declared.kept_parts.KeptParts.{KeptParts}
 use Rattle.project_parts.specs.declared.plan_from.PlanFrom.{PlanFrom}
 use Rattle.kept_parts.proofs.KindLemmas.{plan_brought, plan_is_of}
-use Rattle.kept_parts.proofs.StepLemmas.{both_are, from_both, plan_built, with_plan}
+use Rattle.kept_parts.proofs.StepLemmas.{plan_built, with_plan}
 use Rattle.kept_parts.proofs.kept_parts.KeptParts.build_plan.Goals as goal
 
 pub returns-clause-is_of : goal.returns-clause-is_of
 returns-clause-is_of c =
     let p = c.args.project.now in
-    let devices = c.in_ok-devices.devices in
-    let messages = c.messages-messages.result.now in
     let last = c.devices_for_plan.new.self in
     let same = sym c.devices_for_plan.ensures.same in
-    plan_is_of p last (subst (IsOf p) same c.requires.is_of) c.build.new.self (from_both devices messages)
+    plan_is_of p last (subst (IsOf p) same c.requires.is_of) c.build.new.self (offered_plan c.of-now.result)
     c.in_ok-build.ensures.ok
-    (both_are p devices messages c.in_ok-devices.ensures.value c.messages-messages.ensures)
+    c.of-now.ensures
     (subst (λ (k : KeptParts). HaveNoMark k (of_nodes p)) same c.requires.unmarked)
 
 pub returns-clause-kept : goal.returns-clause-kept
 returns-clause-kept c =
     ap (λ (x : Single PlanFrom). x.kept) c.in_ok-build.ensures.ok
-    ∙ ap Some (both_are c.args.project.now c.in_ok-devices.devices c.messages-messages.result.now
-    c.in_ok-devices.ensures.value c.messages-messages.ensures)
+    ∙ ap Some c.of-now.ensures
 
 pub returns-clause-brings : goal.returns-clause-brings
 returns-clause-brings c =
     let p = c.args.project.now in
     let m = c.args.meter.now in
     let n = c.build.new.meter in
-    let devices = c.in_ok-devices.devices in
-    let messages = c.messages-messages.result.now in
-    let now = from_both devices messages in
-    let is = both_are p devices messages c.in_ok-devices.ensures.value c.messages-messages.ensures in
+    let now = offered_plan c.of-now.result in
+    let is = c.of-now.ensures in
     let last = c.devices_for_plan.new.self in
     let same = sym c.devices_for_plan.ensures.same in
     let stale = subst (λ (k : KeptParts). k.plan.kept ≡ Some (plan_from p) → ⊥) same c.requires.stale in

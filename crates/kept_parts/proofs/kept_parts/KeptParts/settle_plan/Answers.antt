@@ -4,12 +4,13 @@ use Rattle.kept_values.specs.Stale.{AreBrought}
 use Rattle.kept_values.proofs.Brought.{both, refreshes_none}
 use Rattle.kept_parts.specs.Kept.{kept_inputs, HaveNoMark, IsOf}
 use Rattle.project_parts.specs.Given.{inputs_of, same_part}
+use Rattle.project_parts.specs.Offered.{offered_plan}
 use Rattle.project_parts.specs.Reached.{of_nodes}
 use Rattle.project_parts.specs.declared.part.Part.TheVariants as part
 use Rattle.project_parts.specs.declared.plan_from.PlanFrom.{PlanFrom}
 use Rattle.kept_parts.proofs.KindLemmas.{plan_brought, plan_is_of, plan_now}
 use Rattle.kept_parts.proofs.StayLemmas.{plan_stays}
-use Rattle.kept_parts.proofs.StepLemmas.{both_are, from_both, plan_settled, with_plan}
+use Rattle.kept_parts.proofs.StepLemmas.{plan_settled, with_plan}
 use Rattle.kept_parts.proofs.kept_parts.KeptParts.settle_plan.Goals as goal
 
 pub returns-then-is_fresh-clause-brings : goal.returns-then-is_fresh-clause-brings
@@ -23,8 +24,7 @@ returns-then-is_fresh-clause-kept c =
 pub settle-requires : goal.settle-requires
 settle-requires c = λ unmarked.
     plan_now c.args.project.now c.bring_devices.new.self c.in_ok-devices.ensures.is_of unmarked
-    ∙ ap Some (sym (both_are c.args.project.now c.in_ok-devices.devices c.messages-messages.result.now
-    c.in_ok-devices.ensures.value c.messages-messages.ensures))
+    ∙ ap Some (sym c.of-now.ensures)
 
 -- ---- the plan is of these inputs
 
@@ -32,33 +32,30 @@ pub returns-then-settle-clause-is_of : goal.returns-then-settle-clause-is_of
 returns-then-settle-clause-is_of c =
     let p = c.args.project.now in
     let first = c.bring_devices.new.self in
-    let now = from_both c.in_ok-devices.devices c.messages-messages.result.now in
+    let now = offered_plan c.of-now.result in
     plan_is_of p first c.in_ok-devices.ensures.is_of c.settle.new.self now
     (plan_settled first.plan c.settle.new.self now (c.settle.ensures.same.0 c.if-settle.true)
     (c.settle.ensures.settled c.if-settle.true))
-    (both_are p c.in_ok-devices.devices c.messages-messages.result.now c.in_ok-devices.ensures.value
-    c.messages-messages.ensures)
+    c.of-now.ensures
     c.in_ok-devices.ensures.unmarked
 
 pub returns-then-settle-clause-kept : goal.returns-then-settle-clause-kept
 returns-then-settle-clause-kept c =
     ap (λ (x : Single PlanFrom). x.kept) (c.settle.ensures.settled c.if-settle.true)
     ∙ c.settle.ensures.same.0 c.if-settle.true
-    ∙ ap Some (both_are c.args.project.now c.in_ok-devices.devices c.messages-messages.result.now
-    c.in_ok-devices.ensures.value c.messages-messages.ensures)
+    ∙ ap Some c.of-now.ensures
 
 pub returns-then-settle-clause-brings : goal.returns-then-settle-clause-brings
 returns-then-settle-clause-brings c =
     let p = c.args.project.now in
     let first = c.bring_devices.new in
-    let now = from_both c.in_ok-devices.devices c.messages-messages.result.now in
+    let now = offered_plan c.of-now.result in
     let current = c.settle.ensures.same.0 c.if-settle.true in
     both same_part (inputs_of p) (of_nodes p) (part.Plan ∷ []) (kept_inputs c.args.self.now) (kept_inputs first.self) _
     c.args.meter.now first.meter first.meter c.in_ok-devices.ensures.brings
     (plan_brought p first.self c.in_ok-devices.ensures.is_of c.settle.new.self now
     (plan_settled first.self.plan c.settle.new.self now current (c.settle.ensures.settled c.if-settle.true))
-    (both_are p c.in_ok-devices.devices c.messages-messages.result.now c.in_ok-devices.ensures.value
-    c.messages-messages.ensures)
+    c.of-now.ensures
     first.meter first.meter (refreshes_none first.self.plan.kept (Some now) first.meter current))
 
 -- ---- or of others
@@ -76,8 +73,7 @@ build_plan-requires-clause-unmarked c =
 
 pub build_plan-requires-clause-stale : goal.build_plan-requires-clause-stale
 build_plan-requires-clause-stale c = λ same.
-    let is = both_are c.args.project.now c.in_ok-devices.devices c.messages-messages.result.now
-    c.in_ok-devices.ensures.value c.messages-messages.ensures in
+    let is = c.of-now.ensures in
     let settled = c.settle.ensures.same.1
     (ap (λ (x : Single PlanFrom). x.kept) (sym (c.settle.ensures.stale c.if-settle.false)) ∙ same ∙ ap Some (sym is)) in
     let other = c.if-settle.false in

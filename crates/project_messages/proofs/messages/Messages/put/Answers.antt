@@ -2,6 +2,7 @@ use Rattle.std.proofs.Common.{ap, subst, sym, refl, ◌∙◌, [], ℕ, List}
 use Rattle.std.specs.FinMap as map
 use Rattle.std.proofs.lemmas.Result.{err_from_is_err_and}
 use Rattle.project_messages.specs.declared.linked.Linked.{Linked}
+use Rattle.project_messages.specs.declared.receive.Receive.{Receive}
 use Rattle.project_messages.specs.Messages.{with_message, AreMessages}
 use Rattle.project_messages.proofs.MessageLemmas.{message_added, message_missing, message_sent, messages_stay, sent_within}
 use Rattle.project_messages.proofs.messages.Messages.put.Goals as goal
@@ -37,15 +38,23 @@ returns-clause-ok c =
       start = 0;
       sources = c.new.result;
       sinks = c.new-2.result;
+      receives = c.new-3.result;
     } in
-    let bare : List (ℕ × (ℕ × ℕ)) → List ((ℕ × ℕ) × (ℕ × ℕ))
-    → Linked = λ sources sinks. record { message = c.args.message; start = 0; sources = sources; sinks = sinks } in
+    let bare : List (ℕ × (ℕ × ℕ)) → List ((ℕ × ℕ) × (ℕ × ℕ)) → List (ℕ × Receive)
+    → Linked = λ sources sinks receives. record {
+      message = c.args.message;
+      start = 0;
+      sources = sources;
+      sinks = sinks;
+      receives = receives;
+    } in
     let none = message_missing c.self.inside.linked messages c.as_slice.result.now c.self.view_is
     c.in_default.ensures.value in
     message_added before c.insert.new.self messages key new c.args.message
     (messages_stay c.self.inside.linked messages c.args.name c.self.view_is before c.get_mut.follows.holds-at-none)
     (ap (map.get messages) (same ∙ sym c.as_slice.ensures) ∙ none)
-    (ap (λ sources. bare sources c.new-2.result) c.new.ensures ∙ ap (bare []) c.new-2.ensures)
+    (ap (λ sources. bare sources c.new-2.result c.new-3.result) c.new.ensures
+    ∙ ap (λ sinks. bare [] sinks c.new-3.result) c.new-2.ensures ∙ ap (bare [] []) c.new-3.ensures)
     c.in_ok-insert.ensures.updates
     ∙ ap (λ name. with_message messages name c.args.message) same
 

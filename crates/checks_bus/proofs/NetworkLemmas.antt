@@ -1,0 +1,25 @@
+-- The network is one.
+use Rattle.std.proofs.Common.{◌≡◌, refl, arith, inr}
+use Rattle.can_frame.specs.declared.slot_rule.SlotRule.{SlotRule}
+use Rattle.image_parts.specs.Images.{IsRoster}
+use Rattle.image_parts.specs.declared.roster.Roster.{Roster}
+use Rattle.checks_bus.specs.Alike.{network}
+
+is_one : (slots : SlotRule) → IsRoster (network slots)
+is_one slots = record {
+  bit_rate = (3, omega arith, refl);
+  manager = (omega arith, omega arith);
+  sync = inr (omega arith, omega arith);
+  counter = inr (omega arith, omega arith);
+  heartbeat = omega arith;
+  timeout = (omega arith, omega arith);
+  nodes = (
+    (omega arith, omega arith, λ same. omega (arith, same)),
+    ((omega arith, omega arith, λ same. omega (arith, same)), tt),
+  );
+  differ = ((λ same. omega (arith, same), tt), (tt, tt));
+  mandatory = tt;
+}
+
+pub is_roster : (slots : SlotRule) (roster : Roster) → roster ≡ network slots → IsRoster roster
+is_roster slots roster is = rw is (is_one slots)

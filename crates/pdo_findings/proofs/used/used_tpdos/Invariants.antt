@@ -1,0 +1,10 @@
+use Rattle.std.proofs.Common.{◌≡◌, ℕ, take}
+use Rattle.std.specs.BTreeSet.{contains}
+use Rattle.std.specs.Ordering.{nat_cmp}
+use Rattle.pdo_findings.specs.Findings.{uses_tpdo}
+use Rattle.pdo_findings.proofs.used.used_tpdos.Given as goal
+
+-- those of the messages so far
+abbrev pub invariant-loop-planned : goal.invariant-loop-planned
+invariant-loop-planned l =
+    (n : ℕ) → contains nat_cmp l.numbers n ≡ uses_tpdo (take l.planned-index l.planned-items) l.node n

@@ -1,0 +1,8 @@
+use Rattle.cia301.specs.PdoObjects.{rpdo_object}
+use Rattle.pdo_links.proofs.Used.{anyway}
+use Rattle.pdo_links.proofs.VendorValues.{unused_values}
+use Rattle.pdo_links.proofs.vendor_rpdo.put_numbered.Goals as goal
+
+pub returns-in-None-clause-fits : goal.returns-in-None-clause-fits
+returns-in-None-clause-fits c = λ ss node is.
+    anyway c.put_unused.result (rw c.in-None.is (unused_values ss node c.args.device.now is (rpdo_object c.args.number)))

@@ -1,0 +1,5 @@
+pub mod Choices
+pub mod Fixed
+pub mod Mappings
+pub mod Parameters
+pub mod Serving
