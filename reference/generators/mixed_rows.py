@@ -6,7 +6,7 @@ from .words import WORDS
 
 LINES = {2: [b"dcf 5", b"diag", b"project", b"cdcf 5", b"version 2", b"need 5 mandatory", b"event 9 700 nmt 130 5"],
          3: [b"dcf 5", b"diag", b"project", b"cdcf 6", b"trace", b"version 2", b"version 3", b"receive m 6 0 20", b"receive m 6 2 0",
-             b"unreceive m 6", b"need 6 mandatory", b"event 9 700 nmt 130 5"]}
+             b"unreceive m 6", b"time-period 1000 5", b"time-period 0 0", b"need 6 mandatory", b"event 9 700 nmt 130 5"]}
 
 
 def script(r, version=2):

@@ -357,6 +357,7 @@ class Network:
         self.say(b"node %d early %s", numbers[0], self.sheets[0].name)
         self.say(b"receive m %d 0 0", numbers[0])
         self.say(b"unreceive m %d", numbers[0])
+        self.say(b"time-period 1000 5")
         for n in numbers[1:]:
             self.say(b"node %d n%d %s", n, n, self.nodes[n].name)
             self.params_of(n)
@@ -368,6 +369,8 @@ class Network:
         self.sync, self.heartbeat = r.choice([0, 1000, 2000, 3000]), r.choice([0, 0, 2, 3, 4, 5])
         self.say(b"manager %d %d %d %d", number, self.sync, self.heartbeat,
                  r.choice([1, 3, 500, 500, 500, 500]))
+        if r.random() < 0.3:
+            self.say(b"time-period %d %d", r.choice([0, 1000, 1500, 2000, 5000]), r.choice([0, 5, 17000, 65535]))
 
     def mandatory(self):
         r = self.r
@@ -618,6 +621,8 @@ class Network:
             if r.random() < 0.6:
                 for name, node in list(self.receives):
                     self.say(b"unreceive %s %d", name, node)
+                if r.random() < 0.9:
+                    self.say(b"time-period 0 0")
                 if r.random() < 0.5:
                     self.say(b"version %d", target)
                 if self.manager in self.nodes:

@@ -7,7 +7,7 @@ WORDS = [b"0", b"1", b"2", b"5", b"6", b"7", b"9", b"64", b"65", b"127", b"128",
          b"set", b"power", b"nmt", b"mandatory", b"optional", b"\x7f", b"\xE4", b"\x0b", b"a\rb"]
 FIRST = [b"bitrate", b"horizon", b"manager", b"drop-eds", b"node", b"node", b"drop-node", b"param",
          b"param", b"unparam", b"message", b"message", b"drop-message", b"source", b"source",
-         b"unsource", b"sink", b"sink", b"unsink", b"event", b"event", b"drop-event", b"sync-counter",
+         b"unsource", b"sink", b"sink", b"unsink", b"event", b"event", b"drop-event", b"sync-counter", b"time-period",
          b"start", b"version", b"need", b"dcf", b"cdcf", b"diag", b"project", b"Hello", b"EDS"]
 GOOD = {b"node": [[b"5", b"6", b"7", b"127"], [b"p", b"q", b"n"], [b"a", b"b"]],
         b"param": [[b"5", b"6"], [b"2000", b"1400"], [b"0", b"1"], [b"1", b"some  text "]],
@@ -15,8 +15,8 @@ GOOD = {b"node": [[b"5", b"6", b"7", b"127"], [b"p", b"q", b"n"], [b"a", b"b"]],
         b"source": [[b"m", b"n"], [b"1", b"2"], [b"2000"], [b"0"]],
         b"sink": [[b"m", b"n"], [b"1", b"2"], [b"5", b"6"], [b"2000"], [b"0"]],
         b"event": [[b"1", b"2"], [b"0", b"10"], [b"power", b"nmt"], [b"5", b"1"], [b"on", b"5"]],
-        b"need": [[b"5", b"6"], [b"mandatory", b"optional"]], b"version": [[b"1", b"2"]],
-        b"start": [[b"m", b"n"], [b"0", b"3"]]}
+        b"need": [[b"5", b"6"], [b"mandatory", b"optional"]], b"version": [[b"1", b"2", b"3"]],
+        b"start": [[b"m", b"n"], [b"0", b"3"]], b"time-period": [[b"1000", b"0"], [b"0", b"65535"]]}
 
 
 def script(r):

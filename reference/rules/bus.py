@@ -25,6 +25,8 @@ class Roster:
     sync_us: int
     heartbeat_ms: int
     timeout_ms: int
+    time_us: int
+    day: int                   # that begins at the moment 0
     sync_counter: int
     version: int
     starts_by_number: bool     # in place of the start of all nodes at once
@@ -35,8 +37,8 @@ class Roster:
     def of(project):
         mandatory = tuple(number for number, node in sorted(project.nodes.items())
                           if node.is_mandatory and number != project.controller())
-        return Roster(project.bit_rate, *project.manager, project.sync_counter, project.version, project.has(STARTS),
-                      tuple(sorted(project.nodes)), mandatory)
+        return Roster(project.bit_rate, *project.manager, *project.time, project.sync_counter, project.version,
+                      project.has(STARTS), tuple(sorted(project.nodes)), mandatory)
 
     def controller(self):
         """The node that the manager runs in, or None."""

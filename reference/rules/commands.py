@@ -54,6 +54,7 @@ FORMS: Dict[bytes, List[Form]] = {
     b"bitrate": [number_of(10, 20, 50, 125, 250, 500, 1000)],
     b"horizon": [TIME],
     b"manager": [ID, number(1_000, 10_000_000, 0), WORD, number(1, 65_535)],
+    b"time-period": [number(1_000, 10_000_000, 0), WORD],
     b"sync-counter": [number(2, 240, 0)],
     b"drop-eds": [NAMED],
     b"node": [ID, NAMED, NAMED],

@@ -3,7 +3,8 @@
 In version 3 the stuff bits of ISO 11898-1 are counted too: along SOF, identifier, RTR, IDE, r0, DLC, data and CRC."""
 from dataclasses import dataclass
 
-NMT, SYNC, EMERGENCY, SDO_ANSWER, SDO_REQUEST, ERROR_CONTROL = 0x000, 0x080, 0x080, 0x580, 0x600, 0x700
+NMT, SYNC, EMERGENCY, TIME, SDO_ANSWER, SDO_REQUEST, ERROR_CONTROL = 0x000, 0x080, 0x080, 0x100, 0x580, 0x600, 0x700
+DAY_MS = 86_400_000
 
 
 @dataclass(frozen=True)
@@ -22,6 +23,12 @@ def is_boot_up(frame):
 
 def nmt_message(service, node):
     return Frame(NMT, bytes([service, node]))
+
+
+def time_message(now, first_day):
+    """The milliseconds after midnight in 28 bits of four bytes, and the days since 1984-01-01; the run begins at midnight."""
+    days, milliseconds = divmod(now // 1000, DAY_MS)
+    return Frame(TIME, milliseconds.to_bytes(4, "little") + ((first_day + days) % 2**16).to_bytes(2, "little"))
 
 
 # --------------------------------------------------------------------- slots

@@ -10,7 +10,8 @@ from typing import Optional, Tuple
 from . import sdo
 from .devices import START
 from .entries import IDENTITY
-from .frames import ERROR_CONTROL, SDO_ANSWER, SDO_REQUEST, SYNC, Frame, WaitingFrames, boot_up_message, is_boot_up, nmt_message
+from .frames import (ERROR_CONTROL, SDO_ANSWER, SDO_REQUEST, SYNC, Frame, WaitingFrames, boot_up_message, is_boot_up,
+                     nmt_message, time_message)
 
 NOT_BOOTED, CONFIGURED, FAILED = "not booted", "configured", "failed"
 
@@ -132,13 +133,15 @@ class Manager:
     # ---------------------------------------------------------------- timers
 
     def run_timers(self, now):
-        """The time-outs by node, the heartbeat, SYNC."""
+        """The time-outs by node, the heartbeat, TIME, SYNC."""
         for node, stage in self.stages.items():
             if isinstance(stage, Boot) and stage.deadline == now:
                 self.drop_requests(node)
                 self.end_failed(node, sdo.client_abort(stage.transfer, sdo.TIMED_OUT), b"timeout")
         if self.is_due(self.heartbeat_us, now):
             self.waiting.replace(("heartbeat",), Frame(ERROR_CONTROL + self.roster.manager, b"\x05"))
+        if self.is_due(self.roster.time_us, now):
+            self.waiting.replace(("time",), time_message(now, self.roster.day))
         if self.is_due(self.roster.sync_us, now):
             counter, number = self.roster.sync_counter, now // self.roster.sync_us - 1     # it goes by the moment alone
             self.waiting.replace(("sync",), Frame(SYNC, bytes([number % counter + 1]) if counter else b""))
@@ -150,4 +153,5 @@ class Manager:
     def moments(self, now):
         """The due moments after now."""
         deadlines = [stage.deadline for stage in self.stages.values() if isinstance(stage, Boot)]
-        return deadlines + [(now // period + 1) * period for period in (self.heartbeat_us, self.roster.sync_us) if period]
+        periods = self.heartbeat_us, self.roster.time_us, self.roster.sync_us
+        return deadlines + [(now // period + 1) * period for period in periods if period]

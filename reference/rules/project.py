@@ -1,7 +1,8 @@
 """The project: what edits do to it, and how it is printed: docs/rules/commands.md.
 
 Version 3 has `receive MESSAGE ID RPDO MS` and `unreceive MESSAGE ID`: the node takes the message by that RPDO (0: the one that
-the plan gives) and expects it within so many milliseconds (0: the entry stays as it is). A node may have the manager's number."""
+the plan gives) and expects it within so many milliseconds (0: the entry stays as it is); and `time-period US DAYS`: the manager
+sends TIME, and the run begins at midnight of that day. A node may have the manager's number."""
 from dataclasses import dataclass, field
 from typing import Dict, FrozenSet, List, Optional, Tuple
 
@@ -11,7 +12,7 @@ from .versions import CONTROLLER, TYPES, WHOLE
 from .write_check import Place
 
 MOST_TEXTS, MOST_PARAMETERS, MOST_MESSAGES = 64, 4_096, 1_024
-LEAST_VERSION = {b"need": 2, b"receive": 3, b"unreceive": 3}
+LEAST_VERSION = {b"need": 2, b"receive": 3, b"unreceive": 3, b"time-period": 3}
 REMOVALS = {b"unparam": "parameters", b"unsource": "sources", b"unsink": "sinks", b"unreceive": "receives"}    # by the key alone
 
 
@@ -58,6 +59,7 @@ class Project:
     bit_rate: int = 1000
     horizon: int = 1_000_000
     manager: Tuple[int, int, int, int] = (127, 0, 0, 500)        # number, SYNC in us, heartbeat and time-out in ms
+    time: Tuple[int, int] = (0, 0)               # the period of TIME in us, and the day; 0 and 0 without TIME
     sync_counter: int = 0
     texts: Dict[bytes, List[bytes]] = field(default_factory=dict)               # the lines of each EDS
     sheets: Dict[bytes, DataSheet] = field(default_factory=dict)                # what they describe in this version
@@ -108,7 +110,7 @@ class Project:
 
     def edit_version(self, version):
         refuse_unless(version > 1 or not any(node.is_mandatory for node in self.nodes.values()), IN_USE)
-        refuse_unless(version > 2 or not self.receives and self.controller() is None, IN_USE)
+        refuse_unless(version > 2 or not self.receives and not self.time[0] and self.controller() is None, IN_USE)
         self.version = version
         self.sheets = {name: sheet.with_types(self.has(TYPES)) for name, sheet in self.sheets.items()}
 
@@ -121,6 +123,9 @@ class Project:
     def edit_manager(self, *numbers):
         refuse_unless(self.has(CONTROLLER) or numbers[0] not in self.nodes, TAKEN)
         self.manager = numbers
+
+    def edit_time_period(self, period, day):
+        self.time = (period, day) if period else (0, 0)
 
     def edit_sync_counter(self, counter):
         self.sync_counter = counter
@@ -201,6 +206,7 @@ class Project:
         """The lines of `project`."""
         lines = [b"version %d" % self.version] if self.version > 1 else []
         lines += [b"bitrate %d" % self.bit_rate, b"horizon %d" % self.horizon, b"manager %d %d %d %d" % self.manager]
+        lines += [b"time-period %d %d" % self.time] if self.time[0] else []
         lines += [b"sync-counter %d" % self.sync_counter] if self.sync_counter else []
         for name, text in sorted(self.texts.items()):
             lines += [b"eds %s %d" % (name, len(text)), *text]

@@ -41,6 +41,17 @@ def test_the_program_answers_from_its_input_and_from_a_file():
     assert program("--work", "--capacity", "100", given=b"trace\ntrace\n")[2] == b"work 102 1003\n"
 
 
+def test_the_period_of_time_is_counted_as_what_the_roster_has():
+    """Three windows a run. An edit that leaves the period and the day as they were makes nothing anew."""
+    def work(*lines):
+        edits = b"".join(line + b"\ntrace\n" for line in lines)
+        return program("--work", given=b"version 3\nhorizon 20000\ntrace\n" + edits)[2]
+    assert work() == b"work 3 1003\n" and work(b"time-period 0 7") == b"work 3 1003\n"
+    assert work(b"time-period 1000 5") == work(b"time-period 1000 5", b"time-period 1000 5") == b"work 6 1004\n"
+    assert work(b"time-period 1000 5", b"time-period 1000 6") == work(b"time-period 1000 5", b"time-period 2000 5") == b"work 9 1005\n"
+    assert work(b"time-period 1000 5", b"time-period 0 5") == b"work 6 1005\n"
+
+
 def test_the_program_answers_as_the_proved_cobench_does():
     """Without the types of version 3 and without a controller."""
     put("script", b"version 3\neds a 2\n[2000]\nDataType=8\nnode 127 c a\nnode 5 n a\nparam 5 2000 0 1.5\ndiag\nhorizon 900\ntrace\n")
