@@ -81,6 +81,8 @@ fn first_roster(alloc: Global) -> Roster
         manager: 127,
         sync_us: 0,
         sync_counter: 0,
+        time_us: 0,
+        first_day: 0,
         heartbeat_ms: 0,
         timeout_ms: 500,
         start_mode: StartMode::EachNode,

@@ -9,6 +9,10 @@ nmt_id = 0x000
 abbrev pub sync_id : ℕ
 sync_id = 0x080
 
+-- the time stamp object
+abbrev pub time_id : ℕ
+time_id = 0x100
+
 -- the emergency object of a node
 abbrev pub emergency_id : ℕ → ℕ
 emergency_id node = 0x080 + node

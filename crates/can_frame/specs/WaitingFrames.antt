@@ -3,7 +3,7 @@ use Rattle.std.specs.Prelude.{ℕ, Bool, true, false, not, ◌==◌, if◌then�
 use Rattle.std.specs.List.{list_any}
 use Rattle.can_frame.specs.Frames.{BaseFrame}
 use Rattle.can_frame.specs.declared.purpose.Purpose.{Purpose}
-use Rattle.can_frame.specs.declared.purpose.Purpose.TheVariants.{BootUp, Heartbeat, Tpdo, Sdo, Emergency, Sync, Nmt}
+use Rattle.can_frame.specs.declared.purpose.Purpose.TheVariants.{BootUp, Heartbeat, Tpdo, Sdo, Emergency, Sync, Time, Nmt}
 use Rattle.can_frame.specs.declared.unwanted.Unwanted.{Unwanted}
 use Rattle.can_frame.specs.declared.unwanted.Unwanted.TheVariants.{All, Tpdos, Sdos, SdoOf, Emergencies}
 use Rattle.can_frame.specs.declared.waiting.Waiting.{Waiting}
@@ -16,6 +16,7 @@ is_same (Tpdo number) (Tpdo other) = number == other
 is_same (Sdo node) (Sdo other) = node == other
 is_same Emergency Emergency = true
 is_same Sync Sync = true
+is_same Time Time = true
 is_same Nmt Nmt = true
 is_same _ _ = false
 

@@ -2,7 +2,7 @@
 //! 127.
 ghost use Rattle.std.specs.Prelude.{◌≡◌};
 ghost use Rattle.can_frame.specs.Identifiers.{nmt_id, sync_id, emergency_id, sdo_answer_id, sdo_request_id};
-ghost use Rattle.can_frame.specs.Identifiers.{error_control_id};
+ghost use Rattle.can_frame.specs.Identifiers.{error_control_id, time_id};
 
 /// That of what the network management commands: 000h.
 pub fn nmt() -> u16
@@ -16,6 +16,13 @@ pub fn sync() -> u16
     ensures { result ≡ sync_id }
 {
     0x080
+}
+
+/// That of the time stamp object: 100h.
+pub fn time() -> u16
+    ensures { result ≡ time_id }
+{
+    0x100
 }
 
 /// That of the emergency object of a node: 080h + node.

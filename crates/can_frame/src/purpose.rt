@@ -17,6 +17,8 @@ pub enum Purpose {
     Emergency,
     /// The synchronization object.
     Sync,
+    /// The time stamp object.
+    Time,
     /// A command of the network management.
     Nmt,
 }
@@ -33,6 +35,7 @@ impl Purpose {
             (Purpose::Sdo(node), Purpose::Sdo(another)) => node == another,
             (Purpose::Emergency, Purpose::Emergency) => true,
             (Purpose::Sync, Purpose::Sync) => true,
+            (Purpose::Time, Purpose::Time) => true,
             (Purpose::Nmt, Purpose::Nmt) => true,
             _ => false,
         }

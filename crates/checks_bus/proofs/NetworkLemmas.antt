@@ -1,5 +1,5 @@
 -- The network is one.
-use Rattle.std.proofs.Common.{◌≡◌, refl, arith, inr}
+use Rattle.std.proofs.Common.{◌≡◌, refl, arith, inl, inr}
 use Rattle.can_frame.specs.declared.slot_rule.SlotRule.{SlotRule}
 use Rattle.image_parts.specs.Images.{IsRoster}
 use Rattle.image_parts.specs.declared.roster.Roster.{Roster}
@@ -11,6 +11,8 @@ is_one slots = record {
   manager = (omega arith, omega arith);
   sync = inr (omega arith, omega arith);
   counter = inr (omega arith, omega arith);
+  time = inl refl;
+  first_day = omega arith;
   heartbeat = omega arith;
   timeout = (omega arith, omega arith);
   nodes = (

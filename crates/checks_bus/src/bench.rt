@@ -42,6 +42,8 @@ fn roster_of(alloc: Global) -> Result<Roster, AllocError> {
         manager: 127,
         sync_us: 0,
         sync_counter: 0,
+        time_us: 0,
+        first_day: 0,
         heartbeat_ms: 0,
         timeout_ms: 0,
         start_mode: StartMode::EachNode,

@@ -28,6 +28,8 @@ fn roster_of(alloc: Global, slots: SlotRule) -> Result<Roster, AllocError>
         manager: 127,
         sync_us: 20_000,
         sync_counter: 3,
+        time_us: 0,
+        first_day: 0,
         heartbeat_ms: 30,
         timeout_ms: 100,
         start_mode: StartMode::EachNode,

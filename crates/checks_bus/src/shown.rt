@@ -20,6 +20,7 @@ fn purpose_word(purpose: Purpose) -> &'static str {
         Purpose::Sdo(_) => "sdo",
         Purpose::Emergency => "emergency",
         Purpose::Sync => "sync",
+        Purpose::Time => "time",
         Purpose::Nmt => "nmt",
     }
 }

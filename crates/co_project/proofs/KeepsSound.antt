@@ -1,6 +1,6 @@
 -- Each edit that is taken leaves a project that keeps to what every project does.
 use Rattle.std.proofs.Common.{◌≡◌, ◌≤◌, ℕ, sym, ◌∙◌, List, [], ◌∷◌, Bool, true, false, not, ◌&&◌, ◌||◌, ◌==◌, Option}
-use Rattle.std.proofs.Common.{Some, None, Ok, is_some, refl, ap, subst, arith}
+use Rattle.std.proofs.Common.{Some, None, Ok, IfSome, is_some, refl, ap, subst, arith}
 use Rattle.std.proofs.Math.Path.{ap₂}
 use Rattle.std.proofs.lemmas.Bool.{true≢false, false_from_ne_true, or_parts, not-false, eqb-true}
 use Rattle.std.specs.Option.{option_map_or}
@@ -23,11 +23,12 @@ use Rattle.project_edits.specs.declared.fault.EditFault.TheVariants.{Range, Unkn
 use Rattle.project_edits.specs.declared.manager_settings.ManagerSettings.{ManagerSettings}
 use Rattle.project_edits.specs.declared.script_version.ScriptVersion.{ScriptVersion}
 use Rattle.project_edits.specs.declared.script_version.ScriptVersion.TheVariants.{One, Two, Three}
+use Rattle.project_edits.specs.declared.time_stamps.TimeStamps.{TimeStamps}
 use Rattle.project_edits.specs.declared.edit.Edit.{Edit}
 use Rattle.project_edits.specs.declared.edit.Edit.TheVariants as edit
 use Rattle.project_edits.specs.Accepts.{unless}
 use Rattle.project_edits.specs.Eds.{IsEds}
-use Rattle.project_edits.specs.Edits.{IsEdit, IsManager, IsSetting}
+use Rattle.project_edits.specs.Edits.{AreTimeStamps, IsEdit, IsManager, IsSetting}
 use Rattle.project_edits.specs.Forms.{is_bit_rate, is_sync_counter, is_time}
 use Rattle.project_edits.specs.Versions.{is_one, is_three}
 use Rattle.co_dict.specs.Places.{place_cmp}
@@ -39,7 +40,7 @@ use Rattle.co_project.specs.Tables.{is_of_known, has_mandatory, put_node, node_a
 use Rattle.co_project.specs.Tables.{without_param}
 use Rattle.co_project.specs.Project.{Content, first, accept, receive_by, with_nodes}
 use Rattle.base.specs.Tables.{Each}
-use Rattle.co_project.specs.Sound.{AreTexts, AreParams, IsNodeOf, IsMessageOf, IsEventOf, IsSound}
+use Rattle.co_project.specs.Sound.{AreTexts, AreParams, AreTimeStampsOf, IsNodeOf, IsMessageOf, IsEventOf, IsSound}
 use Rattle.base.proofs.EachLemmas.{each_empty, each_fails, each_found, each_put, each_removed, each_weaker, fewer}
 use Rattle.base.proofs.EachLemmas.{known_after_put, none_pass, room_for}
 use Rattle.co_project.proofs.KeepsMessages.{as_many, message_sent, messages_changed, messages_with_node}
@@ -201,6 +202,7 @@ module _ (p : Content) (sound : IsSound p) (id : ℕ) (node : Node) (new : IsNod
     bitrate = sound.bitrate;
     horizon = sound.horizon;
     manager = sound.manager;
+    time_stamps = sound.time_stamps;
     counter = sound.counter;
     texts = sound.texts;
     nodes = each_put nat_cmp_total exact_unsigned (IsNodeOf with_node) p.nodes id node (each_weaker (IsNodeOf p)
@@ -264,22 +266,45 @@ still_fits nodes One none id node there =
 still_fits nodes Two none id node there = refl
 still_fits nodes Three none id node there = refl
 
+-- what fits a version only if it is the third, by parts
+both_fit : (third a b : Bool) → (not third && (a || b)) ≡ false
+    → ((not third && a) ≡ false) × ((not third && b) ≡ false)
+both_fit true a b h = (refl, refl)
+both_fit false a b h = or_parts a b h
+
+-- time stamps in another version
+stamps_in_version : (p : Content) (version : ScriptVersion) (stamps : Option TimeStamps)
+    → (not (is_three version) && is_some stamps) ≡ false → IfSome stamps (AreTimeStampsOf p)
+    → IfSome stamps (AreTimeStampsOf (record p { version = version }))
+stamps_in_version p version None fits are = tt
+stamps_in_version p One (Some stamps) fits are = cc
+stamps_in_version p Two (Some stamps) fits are = cc
+stamps_in_version p Three (Some stamps) fits are = (refl, are.1)
+
+-- time stamps that are new, where the version knows them
+stamps_fit : (p : Content) (stamps : Option TimeStamps) → is_three p.version ≡ true → IfSome stamps AreTimeStamps
+    → IfSome stamps (AreTimeStampsOf p)
+stamps_fit p None three are = tt
+stamps_fit p (Some stamps) three are = (three, are)
+
 -- ---- one edit
 
 module _ (p : Content) (sound : IsSound p) where
-  -- another version, which fits the nodes and the messages
+  -- another version, which fits the nodes, the messages and the time stamps
   version_keeps : (version : ScriptVersion) → (is_one version && has_mandatory p.nodes) ≡ false
-      → (not (is_three version) && have_receives p.messages) ≡ false → IsSound (record p { version = version })
+      → (not (is_three version) && (have_receives p.messages || is_some p.time_stamps)) ≡ false
+      → IsSound (record p { version = version })
   unfolding IsNodeOf IsMessageOf IsEventOf
-  version_keeps version h fits = record {
+  version_keeps version h fits = let parts = both_fit (is_three version) _ _ fits in record {
     bitrate = sound.bitrate;
     horizon = sound.horizon;
     manager = sound.manager;
+    time_stamps = stamps_in_version p version p.time_stamps parts.1 sound.time_stamps;
     counter = sound.counter;
     texts = sound.texts;
     nodes = each_weaker (IsNodeOf p) (IsNodeOf (record p { version = version })) p.nodes node_of_it sound.nodes;
     count = sound.count;
-    messages = messages_in_version p version fits sound.messages;
+    messages = messages_in_version p version parts.0 sound.messages;
     events = sound.events;
   }
     where
@@ -303,6 +328,7 @@ module _ (p : Content) (sound : IsSound p) where
     bitrate = h;
     horizon = sound.horizon;
     manager = sound.manager;
+    time_stamps = sound.time_stamps;
     counter = sound.counter;
     texts = sound.texts;
     nodes = sound.nodes;
@@ -318,6 +344,7 @@ module _ (p : Content) (sound : IsSound p) where
     bitrate = sound.bitrate;
     horizon = h;
     manager = sound.manager;
+    time_stamps = sound.time_stamps;
     counter = sound.counter;
     texts = sound.texts;
     nodes = sound.nodes;
@@ -334,6 +361,7 @@ module _ (p : Content) (sound : IsSound p) where
     bitrate = sound.bitrate;
     horizon = sound.horizon;
     manager = h;
+    time_stamps = sound.time_stamps;
     counter = sound.counter;
     texts = sound.texts;
     nodes = each_weaker (IsNodeOf p) (IsNodeOf (record p { manager = m })) p.nodes node_of_it sound.nodes;
@@ -355,6 +383,23 @@ module _ (p : Content) (sound : IsSound p) where
         is.7,
       )
 
+  -- other time stamps, or none
+  stamps_keep : (stamps : Option TimeStamps) → IfSome stamps AreTimeStamps → is_three p.version ≡ true
+      → IsSound (record p { time_stamps = stamps })
+  unfolding IsNodeOf IsMessageOf IsEventOf
+  stamps_keep stamps are three = record {
+    bitrate = sound.bitrate;
+    horizon = sound.horizon;
+    manager = sound.manager;
+    time_stamps = stamps_fit p stamps three are;
+    counter = sound.counter;
+    texts = sound.texts;
+    nodes = sound.nodes;
+    count = sound.count;
+    messages = sound.messages;
+    events = sound.events;
+  }
+
   -- another last number of the SYNC counter
   counter_keeps : (n : ℕ) → is_sync_counter n ≡ true → IsSound (record p { sync_counter = n })
   unfolding IsNodeOf IsMessageOf IsEventOf
@@ -362,6 +407,7 @@ module _ (p : Content) (sound : IsSound p) where
     bitrate = sound.bitrate;
     horizon = sound.horizon;
     manager = sound.manager;
+    time_stamps = sound.time_stamps;
     counter = h;
     texts = sound.texts;
     nodes = sound.nodes;
@@ -383,6 +429,7 @@ module _ (p : Content) (sound : IsSound p) where
     bitrate = sound.bitrate;
     horizon = sound.horizon;
     manager = sound.manager;
+    time_stamps = sound.time_stamps;
     counter = sound.counter;
     texts = are;
     nodes = each_weaker (IsNodeOf p) (IsNodeOf (with_texts texts)) p.nodes node_of_it sound.nodes;
@@ -438,6 +485,7 @@ module _ (p : Content) (sound : IsSound p) where
     bitrate = sound.bitrate;
     horizon = sound.horizon;
     manager = sound.manager;
+    time_stamps = sound.time_stamps;
     counter = sound.counter;
     texts = sound.texts;
     nodes = each_removed nat_cmp_total exact_unsigned (IsNodeOf without) p.nodes id (each_weaker (IsNodeOf p)
@@ -475,6 +523,7 @@ module _ (p : Content) (sound : IsSound p) where
     bitrate = sound.bitrate;
     horizon = sound.horizon;
     manager = sound.manager;
+    time_stamps = sound.time_stamps;
     counter = sound.counter;
     texts = sound.texts;
     nodes = sound.nodes;
@@ -490,6 +539,7 @@ module _ (p : Content) (sound : IsSound p) where
     bitrate = sound.bitrate;
     horizon = sound.horizon;
     manager = sound.manager;
+    time_stamps = sound.time_stamps;
     counter = sound.counter;
     texts = sound.texts;
     nodes = sound.nodes;
@@ -506,6 +556,7 @@ module _ (p : Content) (sound : IsSound p) where
     bitrate = sound.bitrate;
     horizon = sound.horizon;
     manager = sound.manager;
+    time_stamps = sound.time_stamps;
     counter = sound.counter;
     texts = sound.texts;
     nodes = sound.nodes;
@@ -625,6 +676,7 @@ first_sound = record {
   bitrate = refl;
   horizon = refl;
   manager = (refl, refl, refl, refl);
+  time_stamps = tt;
   counter = refl;
   texts = no_texts;
   nodes = each_empty (IsNodeOf first) empty refl;
@@ -638,7 +690,8 @@ pub edits_keep_sound : (p q : Content) (edit : Edit) → IsSound p → IsEdit ed
 unfolding accept IsEdit
 edits_keep_sound p q (edit.Version version) sound h taken =
     let e = passed _ _ _ q taken in
-    let fits = or_parts (is_one version && has_mandatory p.nodes) (not (is_three version) && have_receives p.messages) e.0 in
+    let fits = or_parts (is_one version && has_mandatory p.nodes)
+    (not (is_three version) && (have_receives p.messages || is_some p.time_stamps)) e.0 in
     subst IsSound e.1 (version_keeps p sound version fits.0 fits.1)
 edits_keep_sound p q (edit.Bitrate rate) sound h taken = subst IsSound (the_same _ q taken)
     (bitrate_keeps p sound rate h)
@@ -646,6 +699,8 @@ edits_keep_sound p q (edit.Horizon time) sound h taken = subst IsSound (the_same
     (horizon_keeps p sound time h)
 edits_keep_sound p q (edit.Manager m) sound h taken = let e = passed _ _ _ q taken
     in subst IsSound e.1 (manager_keeps p sound m h e.0)
+edits_keep_sound p q (edit.TimeStamps stamps) sound h taken = let e = passed _ _ _ q taken
+    in subst IsSound e.1 (stamps_keep p sound stamps h (not-false _ e.0))
 edits_keep_sound p q (edit.SyncCounter n) sound h taken = subst IsSound (the_same _ q taken)
     (counter_keeps p sound n h)
 edits_keep_sound p q (edit.Eds name text) sound h taken = let e = passed _ _ _ q taken

@@ -1,6 +1,7 @@
 -- The project, and what edits do to it (this profile's own).
 use Rattle.std.specs.Prelude.{ℕ, Bool, false, ◌||◌, ◌&&◌, not, ◌==◌, List, [], ◌∷◌, refl, Result, Ok, Err}
-use Rattle.std.specs.Coded.{Coded, code_by, coded×, coded_ℕ, coded_list}
+use Rattle.std.specs.Prelude.{Option, None, is_some}
+use Rattle.std.specs.Coded.{Coded, code_by, coded×, coded_ℕ, coded_list, coded_option}
 use Rattle.std.specs.FinMap.{code, contains_key, empty, insert, remove}
 use Rattle.co_scenario.specs.declared.timed_event.TimedEvent.{TimedEvent}
 use Rattle.co_scenario.specs.Scenario.{Events}
@@ -9,6 +10,7 @@ use Rattle.project_edits.specs.declared.fault.EditFault.TheVariants.{Range, Unkn
 use Rattle.project_edits.specs.declared.manager_settings.ManagerSettings.{ManagerSettings}
 use Rattle.project_edits.specs.declared.script_version.ScriptVersion.{ScriptVersion}
 use Rattle.project_edits.specs.declared.script_version.ScriptVersion.TheVariants.{One}
+use Rattle.project_edits.specs.declared.time_stamps.TimeStamps.{TimeStamps}
 use Rattle.project_edits.specs.declared.edit.Edit.{Edit}
 use Rattle.project_edits.specs.declared.edit.Edit.TheVariants as edit
 use Rattle.project_edits.specs.Accepts.{unless}
@@ -21,14 +23,15 @@ use Rattle.co_project.specs.declared.node.Node.{Node}
 use Rattle.co_project.specs.Tables.{Texts, Nodes, has_no_room, name_taken, is_used, is_named, is_of_known, adds_param}
 use Rattle.co_project.specs.Tables.{has_mandatory, put_node, put_need, put_param, drop_param}
 
--- a project: the version of its script, bit rate in kbit/s, horizon in microseconds, the manager, the last number of the
--- SYNC counter (0 for none), the texts of EDS by name, the nodes by number, the messages by name, and the events by
--- number
+-- a project: the version of its script, bit rate in kbit/s, horizon in microseconds, the manager, its time stamps, the
+-- last number of the SYNC counter (0 for none), the texts of EDS by name, the nodes by number, the messages by name, and
+-- the events by number
 pub record Content : Type 0 where
   pub version : ScriptVersion
   pub bitrate : ℕ
   pub horizon : ℕ
   pub manager : ManagerSettings
+  pub time_stamps : Option TimeStamps
   pub sync_counter : ℕ
   pub texts : Texts
   pub nodes : Nodes
@@ -36,24 +39,50 @@ pub record Content : Type 0 where
   pub events : Events
 
 -- a project is stored as its parts, pair by pair
-abbrev pub content_code : Coded ScriptVersion → Coded ManagerSettings → Coded Node → Coded Named → Coded TimedEvent
-    → Coded Content
-content_code version_code manager_code node_code messages_code event_code =
-    code_by (ScriptVersion × (ℕ × (ℕ × (ManagerSettings × (ℕ × (Texts × (Nodes × (Named × Events))))))))
-    (coded× version_code (coded× coded_ℕ (coded× coded_ℕ (coded× manager_code (coded× coded_ℕ
-    (coded× (code (coded_list coded_ℕ) (coded_list coded_ℕ))
-    (coded× (code coded_ℕ node_code) (coded× messages_code (code coded_ℕ event_code)))))))))
-    (λ p. (p.version, (p.bitrate, (p.horizon, (p.manager, (p.sync_counter, (p.texts, (p.nodes, (p.messages, p.events)))))))))
+abbrev pub content_code : Coded ScriptVersion → Coded ManagerSettings → Coded TimeStamps → Coded Node → Coded Named
+    → Coded TimedEvent → Coded Content
+content_code version_code manager_code stamps_code node_code messages_code event_code =
+    code_by (ScriptVersion × (ℕ × (ℕ × (ManagerSettings × (Option TimeStamps
+    × (ℕ × (Texts × (Nodes × (Named × Events)))))))))
+    (coded× version_code (coded× coded_ℕ (coded× coded_ℕ (coded× manager_code (coded× (coded_option stamps_code)
+    (coded× coded_ℕ (coded× (code (coded_list coded_ℕ) (coded_list coded_ℕ))
+    (coded× (code coded_ℕ node_code) (coded× messages_code (code coded_ℕ event_code))))))))))
+    (λ p. (
+      p.version,
+      (
+        p.bitrate,
+        (
+          p.horizon,
+          (
+            p.manager,
+            (
+              p.time_stamps,
+              (
+                p.sync_counter,
+                (
+                  p.texts,
+                  (
+                    p.nodes,
+                    (p.messages, p.events),
+                  ),
+                ),
+              ),
+            ),
+          ),
+        ),
+      ),
+    ))
     (λ t. record {
       version = t.0;
       bitrate = t.1.0;
       horizon = t.1.1.0;
       manager = t.1.1.1.0;
-      sync_counter = t.1.1.1.1.0;
-      texts = t.1.1.1.1.1.0;
-      nodes = t.1.1.1.1.1.1.0;
-      messages = t.1.1.1.1.1.1.1.0;
-      events = t.1.1.1.1.1.1.1.1;
+      time_stamps = t.1.1.1.1.0;
+      sync_counter = t.1.1.1.1.1.0;
+      texts = t.1.1.1.1.1.1.0;
+      nodes = t.1.1.1.1.1.1.1.0;
+      messages = t.1.1.1.1.1.1.1.1.0;
+      events = t.1.1.1.1.1.1.1.1.1;
     }) (λ _. refl)
 
 -- the project that each session begins with
@@ -63,6 +92,7 @@ first = record {
   bitrate = 1000;
   horizon = 1000000;
   manager = record { id = 127; sync_us = 0; heartbeat_ms = 0; timeout_ms = 500 };
+  time_stamps = None;
   sync_counter = 0;
   texts = empty;
   nodes = empty;
@@ -82,13 +112,20 @@ receive_by rpdo event = record { rpdo = rpdo; event = event }
 -- THE EDIT: the project that an edit makes of a project, or the first fault that applies
 unfoldable pub accept : Content → Edit → Result Content EditFault
 accept p (edit.Version version) =
-    unless ((is_one version && has_mandatory p.nodes || not (is_three version) && have_receives p.messages, InUse) ∷ [])
+    unless ((
+      is_one version && has_mandatory p.nodes
+          || not (is_three version) && (have_receives p.messages || is_some p.time_stamps),
+      InUse,
+    ) ∷ [])
     (record p { version = version })
 accept p (edit.Bitrate rate) = Ok (record p { bitrate = rate })
 accept p (edit.Horizon time) = Ok (record p { horizon = time })
 accept p (edit.Manager m) =
     unless ((contains_key p.nodes m.id, Taken) ∷ [])
     (record p { manager = m })
+accept p (edit.TimeStamps stamps) =
+    unless ((not (is_three p.version), Range) ∷ [])
+    (record p { time_stamps = stamps })
 accept p (edit.SyncCounter n) = Ok (record p { sync_counter = n })
 accept p (edit.Eds name text) =
     unless ((has_no_room p.texts name, Limit) ∷ [])

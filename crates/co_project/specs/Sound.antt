@@ -1,5 +1,5 @@
 -- What every project keeps to, whatever edits made it (this profile's own).
-use Rattle.std.specs.Prelude.{◌≡◌, ◌≤◌, ◌==◌, ◌&&◌, ℕ, true, false, List, All}
+use Rattle.std.specs.Prelude.{◌≡◌, ◌≤◌, ◌==◌, ◌&&◌, ℕ, true, false, List, All, IfSome}
 use Rattle.std.specs.FinMap.{contains_key, len}
 use Rattle.base.specs.Tables.{Each}
 use Rattle.co_scenario.specs.declared.timed_event.TimedEvent.{TimedEvent}
@@ -7,7 +7,8 @@ use Rattle.project_edits.specs.Forms.{is_name, is_bit_rate, is_time, is_event_nu
 use Rattle.cia301.specs.Limits.{is_node_number}
 use Rattle.project_edits.specs.Versions.{is_one, is_three}
 use Rattle.project_edits.specs.Eds.{IsEds}
-use Rattle.project_edits.specs.Edits.{IsManager, IsSetting, IsEvent}
+use Rattle.project_edits.specs.Edits.{AreTimeStamps, IsManager, IsSetting, IsEvent}
+use Rattle.project_edits.specs.declared.time_stamps.TimeStamps.{TimeStamps}
 use Rattle.project_messages.specs.declared.linked.Linked.{Linked}
 use Rattle.project_messages.specs.declared.receive.Receive.{Receive}
 use Rattle.project_messages.specs.Messages.{IsLinked}
@@ -34,6 +35,10 @@ IsNodeOf p id node =
     × AreParams node.params
     × ((is_one p.version && node.mandatory) ≡ false)
 
+-- time stamps of the project: there are such in version 3 alone
+abbrev pub AreTimeStampsOf : Content → TimeStamps → Type 0
+AreTimeStampsOf p stamps = (is_three p.version ≡ true) × AreTimeStamps stamps
+
 -- a receive of a message of the project: there are such in version 3 alone, and its node is there
 abbrev pub IsReceiveOf : Content → ℕ × Receive → Type 0
 IsReceiveOf p r = (is_three p.version ≡ true) × (contains_key p.nodes r.0 ≡ true)
@@ -55,6 +60,7 @@ pub record IsSound (p : Content) : Type 0 where
   pub bitrate : is_bit_rate p.bitrate ≡ true
   pub horizon : is_time p.horizon ≡ true
   pub manager : IsManager p.manager
+  pub time_stamps : IfSome p.time_stamps (AreTimeStampsOf p)
   pub counter : is_sync_counter p.sync_counter ≡ true
   pub texts : AreTexts p.texts
   pub nodes : Each (IsNodeOf p) p.nodes

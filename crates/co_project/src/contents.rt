@@ -10,7 +10,7 @@ use crate::nodes::Nodes;
 use crate::texts::Texts;
 use base::{Octets, Shared};
 use co_scenario::{Script, TimedEvent};
-use project_edits::{Edit, EditFault, ManagerSettings, ScriptVersion};
+use project_edits::{Edit, EditFault, ManagerSettings, ScriptVersion, TimeStamps};
 use project_messages::{Messages, Receive};
 use std::alloc::{AllocError, Global};
 use std::marker::Model;
@@ -23,6 +23,7 @@ pub(crate) struct Contents {
     pub bitrate: u16,
     pub horizon: u32,
     pub manager: ManagerSettings,
+    pub time_stamps: Option<TimeStamps>,
     pub sync_counter: u8,
     pub texts: Texts,
     pub nodes: Nodes,
@@ -33,6 +34,7 @@ pub(crate) struct Contents {
 impl Model for Contents {
     ghost use Rattle.project_edits.specs.contracts.manager_settings.ManagerSettings as settings;
     ghost use Rattle.project_edits.specs.contracts.script_version.ScriptVersion as numbered;
+    ghost use Rattle.project_edits.specs.contracts.time_stamps.TimeStamps as stamped;
     ghost use Rattle.co_scenario.specs.contracts.timed_event.TimedEvent as timed;
     ghost use Rattle.co_project.specs.contracts.node.Node as node;
     ghost use Rattle.project_messages.specs.contracts.messages.Messages as linked;
@@ -40,14 +42,15 @@ impl Model for Contents {
 
     ghost Value = { Content };
 
-    ghost coded = { content_code numbered.the_row.coded settings.the_row.coded node.the_row.coded linked.the_row.coded
-        timed.the_row.coded };
+    ghost coded = { content_code numbered.the_row.coded settings.the_row.coded stamped.the_row.coded node.the_row.coded
+        linked.the_row.coded timed.the_row.coded };
 
     ghost view = { λ c. record {
       version = c.version;
       bitrate = c.bitrate;
       horizon = c.horizon;
       manager = c.manager;
+      time_stamps = c.time_stamps;
       sync_counter = c.sync_counter;
       texts = c.texts;
       nodes = c.nodes;
@@ -71,6 +74,7 @@ impl Contents {
                 heartbeat_ms: 0,
                 timeout_ms: 500,
             },
+            time_stamps: None,
             sync_counter: 0,
             texts: Texts::new(alloc),
             nodes: Nodes::new(alloc),
@@ -93,6 +97,7 @@ impl Contents {
             bitrate: self.bitrate,
             horizon: self.horizon,
             manager: self.manager,
+            time_stamps: self.time_stamps,
             sync_counter: self.sync_counter,
             texts,
             nodes,
@@ -109,6 +114,7 @@ impl Contents {
             && self.bitrate == other.bitrate
             && self.horizon == other.horizon
             && self.manager == other.manager
+            && self.time_stamps == other.time_stamps
             && self.sync_counter == other.sync_counter
             && self.nodes.same(&other.nodes)
             && self.messages.same(&other.messages)
@@ -134,6 +140,7 @@ impl Contents {
                 Ok(())
             }
             Edit::Manager(manager) => self.manage(manager),
+            Edit::TimeStamps(stamps) => self.stamp(stamps),
             Edit::SyncCounter(last) => {
                 self.sync_counter = last;
                 Ok(())
@@ -187,7 +194,7 @@ impl Contents {
     }
 
     /// Gives the script another version: version 1 only where no node is mandatory, and version 3 alone where
-    /// a message has a receive.
+    /// a message has a receive, or the manager sends time stamps.
     #[tactic(auto, unfolding(crate::specs::Project::accept, crate::specs::Project::adds))]
     fn set_version(&mut self, version: ScriptVersion) -> Result<(), EditFault>
         ensures accepts { Accepts self.old self.new result (accept self.old (edit.Version version)) }
@@ -196,7 +203,7 @@ impl Contents {
         if version.is_one() && self.nodes.have_mandatory() {
             return Err(EditFault::InUse);
         }
-        if !version.is_three() && self.messages.have_receives() {
+        if !version.is_three() && (self.messages.have_receives() || self.time_stamps.is_some()) {
             return Err(EditFault::InUse);
         }
         self.version = version;
@@ -213,6 +220,19 @@ impl Contents {
             return Err(EditFault::Taken);
         }
         self.manager = manager;
+        Ok(())
+    }
+
+    /// Has the manager send time stamps, or none, where the version knows them.
+    #[tactic(auto, unfolding(crate::specs::Project::accept, crate::specs::Project::adds))]
+    fn stamp(&mut self, stamps: Option<TimeStamps>) -> Result<(), EditFault>
+        ensures accepts { Accepts self.old self.new result (accept self.old (edit.TimeStamps stamps)) }
+        ensures memory { IsErrOf result EditFault.Memory → IsTrue (adds self.old (edit.TimeStamps stamps)) }
+    {
+        if !self.version.is_three() {
+            return Err(EditFault::Range);
+        }
+        self.time_stamps = stamps;
         Ok(())
     }
 

@@ -15,4 +15,4 @@ pub use device_text::read_device;
 pub use node::Node;
 pub use node_parameters::Params;
 pub use project::Project;
-pub use project_edits::{Command, EditFault, ManagerSettings, ScriptVersion, refusal};
+pub use project_edits::{Command, EditFault, ManagerSettings, ScriptVersion, TimeStamps, refusal};

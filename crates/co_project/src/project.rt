@@ -13,15 +13,15 @@ use crate::contents::Contents;
 use crate::node::Node;
 use base::{Octets, Shared};
 use co_scenario::Script;
-use project_edits::{Command, EditFault, ManagerSettings, ScriptVersion};
+use project_edits::{Command, EditFault, ManagerSettings, ScriptVersion, TimeStamps};
 use project_messages::Messages;
 use std::alloc::{AllocError, Global};
 use std::collections::btree_map::Iter;
 use std::marker::Model;
 
-/// A project: the version of its script, the bit rate, the horizon, the manager, the last number of the
-/// SYNC counter, the texts of EDS by name, the nodes by number with their parameters, the messages by
-/// name, and the events by number.
+/// A project: the version of its script, the bit rate, the horizon, the manager, its time stamps, the last
+/// number of the SYNC counter, the texts of EDS by name, the nodes by number with their parameters, the
+/// messages by name, and the events by number.
 #[derive(Drop)]
 pub struct Project {
     contents: Contents,
@@ -43,8 +43,8 @@ impl Model for Project {
 
 impl Project {
     /// The first project: version 1, 1000 kbit/s, a horizon of 1,000,000 microseconds, the manager 127
-    /// without SYNC and heartbeat and with 500 milliseconds for an SDO answer, no SYNC counter, and
-    /// nothing else.
+    /// without SYNC, heartbeat and time stamps and with 500 milliseconds for an SDO answer, no SYNC counter,
+    /// and nothing else.
     pub fn new(alloc: Global) -> Self
         ensures { result ≡ first }
     {
@@ -63,9 +63,9 @@ impl Project {
         Ok(Project { contents })
     }
 
-    /// Whether the other project is the same: the version, the bit rate, the horizon, the manager, the
-    /// SYNC counter, the nodes with their parameters, the messages, the events, and last the texts of EDS. Takes time by what stands
-    /// up to the first difference in this order, and no memory.
+    /// Whether the other project is the same: the version, the bit rate, the horizon, the manager, its time
+    /// stamps, the SYNC counter, the nodes with their parameters, the messages, the events, and last the texts
+    /// of EDS. Takes time by what stands up to the first difference in this order, and no memory.
     pub fn same(&self, other: &Project) -> bool
         ensures { IsTrue result ↔ (self.now ≡ other.now) }
     {
@@ -74,14 +74,15 @@ impl Project {
 
     /// Takes an edit, or refuses it with the first fault that applies and changes nothing.
     ///
-    /// Range: a node is to be mandatory or optional in version 1, or a receive comes or goes in version 1
-    /// or 2. Unknown: an EDS, a node, a parameter, a message, a source, a sink, a receive or an event that is
-    /// named isn't there. Taken: the number is the manager's or a node's, or the name another node's. InUse: a
-    /// node is mandatory where version 1 is asked, or a message has a receive where version 1 or 2 is, a node
-    /// still uses the EDS, a message is sent or taken by the node or has a receive of it, or an event is of
-    /// it. Limit: a 65th text, a 4,097th parameter of a node, or a 1,025th message. Memory can come in place
-    /// of each where the edit gives a text, a node, a parameter, a message, a source, a sink, a receive or an
-    /// event where there is none, and changes nothing either.
+    /// Range: a node is to be mandatory or optional in version 1, or a receive comes or goes, or time stamps
+    /// are asked for or none, in version 1 or 2. Unknown: an EDS, a node, a parameter, a message, a source, a
+    /// sink, a receive or an event that is named isn't there. Taken: the number is the manager's or a node's,
+    /// or the name another node's. InUse: a node is mandatory where version 1 is asked, or a message has a
+    /// receive or there are time stamps where version 1 or 2 is, a node still uses the EDS, a message is sent
+    /// or taken by the node or has a receive of it, or an event is of it. Limit: a 65th text, a 4,097th
+    /// parameter of a node, or a 1,025th message. Memory can come in place of each where the edit gives a
+    /// text, a node, a parameter, a message, a source, a sink, a receive or an event where there is none, and
+    /// changes nothing either.
     ///
     /// `drop-eds` and `node` take time by the number of nodes, `version` by that of nodes and messages,
     /// `drop-node` by that of messages, sinks, receives, events and the node's parameters, `drop-message` by
@@ -119,6 +120,13 @@ impl Project {
         ensures { result ≡ self.now.manager }
     {
         self.contents.manager
+    }
+
+    /// The manager's time stamps (CiA 301, TIME), if it sends any.
+    pub fn time_stamps(&self) -> Option<TimeStamps>
+        ensures { result ≡ self.now.time_stamps }
+    {
+        self.contents.time_stamps
     }
 
     /// The last number of the counter of SYNC messages (CiA 301, synchronous counter overflow value),

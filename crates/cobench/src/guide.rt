@@ -7,6 +7,8 @@ Edits. Numbers are decimal; INDEX, SUB and COB are hexadecimal, without 0x.
   bitrate K                            10, 20, 50, 125, 250, 500, 1000 kbit/s
   horizon US                           the simulation ends, 0 to 10000000 us
   manager ID SYNC_US HB_MS TIMEOUT_MS  who boots the nodes; 0 for no SYNC or HB
+  time-period US DAYS                  in version 3: TIME each US us, on day DAYS
+                                       at first; 0 for none
   sync-counter N                       SYNC counts to N, 2 to 240; 0 for none
   eds NAME LINES                       the next LINES lines are an EDS
   drop-eds NAME
@@ -32,7 +34,7 @@ Edits. Numbers are decimal; INDEX, SUB and COB are hexadecimal, without 0x.
                                        129 and 130 reset; ID 0 for all nodes
   drop-event K
 The first project has version 1, 1000 kbit/s, horizon 1000000, manager
-127 0 0 500 and no SYNC counter.
+127 0 0 500, no time stamps and no SYNC counter.
 
 Queries:
   dcf ID    the device configuration file of a node (CiA 306)

@@ -117,6 +117,8 @@ const HELP: &[u8] = b"\
     \x20 bitrate K                            10, 20, 50, 125, 250, 500, 1000 kbit/s\n\
     \x20 horizon US                           the simulation ends, 0 to 10000000 us\n\
     \x20 manager ID SYNC_US HB_MS TIMEOUT_MS  who boots the nodes; 0 for no SYNC or HB\n\
+    \x20 time-period US DAYS                  in version 3: TIME each US us, on day DAYS\n\
+    \x20                                      at first; 0 for none\n\
     \x20 sync-counter N                       SYNC counts to N, 2 to 240; 0 for none\n\
     \x20 eds NAME LINES                       the next LINES lines are an EDS\n\
     \x20 drop-eds NAME\n\
@@ -142,7 +144,7 @@ const HELP: &[u8] = b"\
     \x20                                      129 and 130 reset; ID 0 for all nodes\n\
     \x20 drop-event K\n\
     The first project has version 1, 1000 kbit/s, horizon 1000000, manager\n\
-    127 0 0 500 and no SYNC counter.\n\
+    127 0 0 500, no time stamps and no SYNC counter.\n\
     \n\
     Queries:\n\
     \x20 dcf ID    the device configuration file of a node (CiA 306)\n\

@@ -35,6 +35,8 @@ pub record IsRoster (roster : Roster) : Type 0 where
   pub manager : IsNodeNumber roster.manager
   pub sync : (roster.sync_us ≡ 0) ⊎ ((1000 ≤ roster.sync_us) × (roster.sync_us ≤ 10000000))
   pub counter : (roster.sync_counter ≡ 0) ⊎ ((2 ≤ roster.sync_counter) × (roster.sync_counter ≤ 240))
+  pub time : (roster.time_us ≡ 0) ⊎ ((1000 ≤ roster.time_us) × (roster.time_us ≤ 10000000))
+  pub first_day : roster.first_day < 2 ^ 16
   pub heartbeat : roster.heartbeat_ms < 2 ^ 16
   pub timeout : (1 ≤ roster.timeout_ms) × (roster.timeout_ms < 2 ^ 16)
   pub nodes : AllByRecursion (IsNode roster.manager) roster.nodes

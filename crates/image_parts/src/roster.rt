@@ -20,6 +20,10 @@ pub struct Roster {
     /// The last number that the counter of a SYNC message has before it begins again at 1 (CiA 301,
     /// synchronous counter overflow value), 2 to 240; 0 for SYNC messages without a counter.
     pub sync_counter: u8,
+    /// The time between two time stamp messages (CiA 301, TIME) in microseconds; 0 for none.
+    pub time_us: u32,
+    /// The day of these messages at whose midnight the network is switched on; 0 without such messages.
+    pub first_day: u16,
     /// The manager's producer heartbeat time in milliseconds; 0 for none.
     pub heartbeat_ms: u16,
     /// The longest wait of the manager for an SDO answer in milliseconds.
@@ -51,6 +55,12 @@ impl Roster {
             return false;
         }
         if self.sync_counter != other.sync_counter {
+            return false;
+        }
+        if self.time_us != other.time_us {
+            return false;
+        }
+        if self.first_day != other.first_day {
             return false;
         }
         if self.heartbeat_ms != other.heartbeat_ms {

@@ -233,6 +233,7 @@ plan_below p (edit.Version version) name h = refl
 plan_below p (edit.Bitrate rate) name h = refl
 plan_below p (edit.Horizon time) name h = refl
 plan_below p (edit.Manager m) name h = refl
+plan_below p (edit.TimeStamps stamps) name h = refl
 plan_below p (edit.SyncCounter n) name h = refl
 plan_below p (edit.Eds other text) name h = cc
 plan_below p (edit.DropEds other) name h = cc

@@ -1,7 +1,7 @@
 -- The roster of a project is one.
 use Rattle.std.proofs.Common.{◌≡◌, ◌≢◌, ℕ, ◌<◌, ◌≤◌, ◌==◌, ◌||◌, ◌⊎◌, Bool, true, false, cond, T, List, [], ◌∷◌}
 use Rattle.std.proofs.Common.{All, Contains, refl, arith, inl, inr}
-use Rattle.std.specs.Prelude.{map, nat_eq, filter}
+use Rattle.std.specs.Prelude.{map, nat_eq, filter, Option, Some, None, IfSome, ◌^◌}
 use Rattle.std.specs.List.{AllByRecursion}
 use Rattle.std.specs.Ordering.{nat_cmp, is_lt}
 use Rattle.std.specs.FinMap.{entries, entries_sorted, is_sorted, keys}
@@ -16,10 +16,12 @@ use Rattle.std.proofs.lemmas.Map.Views.{Contains-from_any}
 use Rattle.base.proofs.EachLemmas.{all_entries, first_part, second_part}
 use Rattle.pdo_plan.proofs.LimitLemmas.{between}
 use Rattle.base.specs.Ranges.{is_between}
-use Rattle.project_edits.specs.Edits.{IsManager}
+use Rattle.project_edits.specs.Edits.{AreTimeStamps, IsManager}
+use Rattle.project_edits.specs.Stamps.{first_day_of, period_of}
+use Rattle.project_edits.specs.declared.time_stamps.TimeStamps.{TimeStamps}
 use Rattle.co_project.specs.declared.node.Node.{Node}
 use Rattle.co_project.specs.Project.{Content as Project}
-use Rattle.co_project.specs.Sound.{IsNodeOf, IsSound}
+use Rattle.co_project.specs.Sound.{AreTimeStampsOf, IsNodeOf, IsSound}
 use Rattle.image_parts.specs.Images.{AllDiffer, IsNode, IsRoster}
 use Rattle.cia301.specs.Limits.{bit_rates}
 use Rattle.network_image.specs.Image.{mandatory_of, roster_of_project}
@@ -78,6 +80,18 @@ mandatory_among p =
     keys_left (Contains (keys p.nodes)) (λ (e : ℕ × Node). e.1.mandatory) (entries p.nodes)
     (recursion_from_All (Contains (keys p.nodes)) (keys p.nodes) (All-contains_itself (keys p.nodes)))
 
+-- the numbers of time stamps lie within their limits
+stamps_period : (p : Project) (stamps : Option TimeStamps) → IfSome stamps (AreTimeStampsOf p)
+    → (period_of stamps ≡ 0) ⊎ ((1000 ≤ period_of stamps) × (period_of stamps ≤ 10000000))
+unfolding AreTimeStamps
+stamps_period p None are = inl refl
+stamps_period p (Some stamps) are = inr (between 1000 10000000 stamps.period_us are.1.0)
+
+stamps_day : (p : Project) (stamps : Option TimeStamps) → IfSome stamps (AreTimeStampsOf p) → first_day_of stamps < 2 ^ 16
+unfolding AreTimeStamps
+stamps_day p None are = omega arith
+stamps_day p (Some stamps) are = let most = between 0 65535 stamps.first_day are.1.1 in omega (arith, most.1)
+
 pub is_roster : (p : Project) → IsSound p → IsRoster (roster_of_project p)
 unfolding roster_of_project IsManager
 is_roster p sound = record {
@@ -85,6 +99,8 @@ is_roster p sound = record {
   manager = between 1 127 p.manager.id sound.manager.0;
   sync = none_or_between 1000 10000000 p.manager.sync_us sound.manager.1;
   counter = none_or_between 2 240 p.sync_counter sound.counter;
+  time = stamps_period p p.time_stamps sound.time_stamps;
+  first_day = stamps_day p p.time_stamps sound.time_stamps;
   heartbeat = let most = between 0 65535 p.manager.heartbeat_ms sound.manager.2 in omega (arith, most.1);
   timeout = let range = between 1 65535 p.manager.timeout_ms sound.manager.3 in (range.0, omega (arith, range.1));
   nodes = numbers_apart p (entries p.nodes) (all_entries nat_cmp_total exact_unsigned (IsNodeOf p) p.nodes sound.nodes);

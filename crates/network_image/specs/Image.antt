@@ -8,6 +8,7 @@ use Rattle.can_frame.specs.declared.slot_rule.SlotRule.TheVariants.{Stuffed, Uns
 use Rattle.co_dict.specs.Values.{Values}
 use Rattle.eds_device.specs.Entries.{defaults_of}
 use Rattle.eds_device.specs.Identity.{identity}
+use Rattle.project_edits.specs.Stamps.{first_day_of, period_of}
 use Rattle.project_edits.specs.declared.script_version.ScriptVersion.{ScriptVersion}
 use Rattle.project_edits.specs.declared.script_version.ScriptVersion.TheVariants.{One, Two, Three}
 use Rattle.project_plan.specs.Events.{shape_of_node}
@@ -40,7 +41,8 @@ slot_rule Three = Stuffed
 abbrev pub mandatory_of : Nodes → List ℕ
 mandatory_of nodes = keys_of (filter (λ e. e.1.mandatory) (entries nodes))
 
--- the bit rate, which bits of a frame take the bus, the manager, when it starts nodes, and the numbers of the nodes
+-- the bit rate, which bits of a frame take the bus, the manager with what it sends periodically, when it starts nodes, and
+-- the numbers of the nodes
 unfoldable pub roster_of_project : Project → Roster
 roster_of_project project = record {
   bit_rate = project.bitrate;
@@ -48,6 +50,8 @@ roster_of_project project = record {
   manager = project.manager.id;
   sync_us = project.manager.sync_us;
   sync_counter = project.sync_counter;
+  time_us = period_of project.time_stamps;
+  first_day = first_day_of project.time_stamps;
   heartbeat_ms = project.manager.heartbeat_ms;
   timeout_ms = project.manager.timeout_ms;
   start_mode = start_mode_of project.version;

@@ -5,7 +5,7 @@ ghost use Rattle.network_image.specs.Image.{mandatory_of, roster_of_project, slo
 
 use base::Octets;
 use can_frame::SlotRule;
-use co_project::{Project, ScriptVersion};
+use co_project::{Project, ScriptVersion, TimeStamps};
 use image_parts::{Roster, StartMode};
 use std::alloc::{AllocError, Global};
 
@@ -68,6 +68,8 @@ pub fn make_roster(alloc: Global, project: &Project) -> Result<Roster, AllocErro
         manager: manager.id,
         sync_us: manager.sync_us,
         sync_counter: project.sync_counter(),
+        time_us: TimeStamps::period_of(project.time_stamps()),
+        first_day: TimeStamps::first_day_of(project.time_stamps()),
         heartbeat_ms: manager.heartbeat_ms,
         timeout_ms: manager.timeout_ms,
         start_mode: start_mode(project.version()),
@@ -124,6 +126,8 @@ pub fn is_roster(roster: &Roster, project: &Project) -> bool
         && roster.manager == manager.id
         && roster.sync_us == manager.sync_us
         && roster.sync_counter == project.sync_counter()
+        && roster.time_us == TimeStamps::period_of(project.time_stamps())
+        && roster.first_day == TimeStamps::first_day_of(project.time_stamps())
         && roster.heartbeat_ms == manager.heartbeat_ms
         && roster.timeout_ms == manager.timeout_ms
         && roster.start_mode == start_mode(project.version())

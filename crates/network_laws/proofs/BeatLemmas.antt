@@ -1,15 +1,15 @@
 -- What the manager sends periodically, at each moment of a run.
-use Rattle.std.proofs.Common.{◌↔◌, ℕ, ◌+◌, ◌*◌, arith, refl}
+use Rattle.std.proofs.Common.{◌↔◌, ℕ, ◌+◌, ◌*◌, refl}
 use Rattle.std.specs.Prelude.{Contains}
 use Rattle.image_parts.specs.Asking.{outcome}
 use Rattle.image_parts.specs.Contents.{Image, roster_of}
 use Rattle.image_parts.specs.declared.part.Part.TheVariants.{Roster}
 use Rattle.image_parts.specs.declared.roster.Roster.{Roster as Network}
 use Rattle.nmt_boot.proofs.BeatLemmas.{command_on_time, due_at_multiples, frame_on_time, on_time_first, timers_on_time}
-use Rattle.nmt_boot.specs.Beats.{IsMultiple, IsOnTime, due_messages}
-use Rattle.nmt_boot.specs.Periodic.{messages, period_of}
+use Rattle.nmt_boot.specs.Beats.{HasNumbersOf, IsMultiple, IsOnTime, due_messages}
+use Rattle.nmt_boot.specs.Periodic.{period_of}
 use Rattle.nmt_boot.specs.declared.periodic_message.PeriodicMessage.{PeriodicMessage}
-use Rattle.nmt_boot.specs.declared.periodic_message.PeriodicMessage.TheVariants.{Heartbeat, Sync}
+use Rattle.nmt_boot.specs.declared.periodic_message.PeriodicMessage.TheVariants.{Heartbeat, Time, Sync}
 use Rattle.can_bus.specs.Bus.{Bus, ended_slot, instant, power_on}
 use Rattle.can_bus.proofs.PowerLemmas.{outcome_power_on_of}
 use Rattle.can_bus.specs.Spans.{bus_at}
@@ -43,17 +43,20 @@ module _ (image : Image) (t : ℕ) where
   IsDue message = Contains (due_messages t (bus_at image t).manager.periodic) message
 
   pub due_at_multiples_of_run : (message : PeriodicMessage) → IsDue message
-      ↔ (Contains (messages network.sync_counter) message × IsMultiple t (period_of network message))
+      ↔ (HasNumbersOf network message × IsMultiple t (period_of network message))
   due_at_multiples_of_run message = due_at_multiples network t (bus_at image t).manager message on_time
 
   -- a message of the network
-  at_its_multiples : (message : PeriodicMessage) → Contains (messages network.sync_counter) message
+  at_its_multiples : (message : PeriodicMessage) → HasNumbersOf network message
       → IsDue message ↔ IsMultiple t (period_of network message)
   at_its_multiples message one = let due = due_at_multiples_of_run message in
       (λ h. (due.0 h).1, λ multiple. due.1 (one, multiple))
 
   pub heartbeat_at_multiples : IsDue Heartbeat ↔ IsMultiple t (1000 * network.heartbeat_ms)
-  heartbeat_at_multiples = at_its_multiples Heartbeat (0, omega arith, refl)
+  heartbeat_at_multiples = at_its_multiples Heartbeat tt
+
+  pub time_at_multiples : IsDue (Time network.first_day) ↔ IsMultiple t network.time_us
+  time_at_multiples = at_its_multiples (Time network.first_day) refl
 
   pub sync_at_multiples : IsDue (Sync network.sync_counter) ↔ IsMultiple t network.sync_us
-  sync_at_multiples = at_its_multiples (Sync network.sync_counter) (1, omega arith, refl)
+  sync_at_multiples = at_its_multiples (Sync network.sync_counter) refl

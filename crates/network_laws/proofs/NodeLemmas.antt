@@ -27,7 +27,7 @@ use Rattle.nmt_boot.specs.Manager.{Manager, after_boot_up, after_frame, after_sd
 use Rattle.nmt_boot.specs.Periodic.{frame_of, purpose_of, queue_after}
 use Rattle.nmt_boot.specs.declared.periodic.Periodic.{Periodic}
 use Rattle.nmt_boot.specs.declared.periodic_message.PeriodicMessage.{PeriodicMessage}
-use Rattle.nmt_boot.specs.declared.periodic_message.PeriodicMessage.TheVariants.{Heartbeat, Sync}
+use Rattle.nmt_boot.specs.declared.periodic_message.PeriodicMessage.TheVariants.{Heartbeat, Time, Sync}
 use Rattle.nmt_boot.specs.Startup.{nmt_frame}
 use Rattle.manager_nodes.specs.Table.{is_from, no_node, node_after, node_at, place_of}
 use Rattle.manager_nodes.specs.Table.{queue_after_time_out, queue_after_time_outs, timed_out, with_stage}
@@ -250,6 +250,7 @@ module _ (m : Manager) (i : ℕ) (own : IsAlone m.nodes i) where
 
     no_request : (message : PeriodicMessage) → is_unwanted (SdoOf n) (purpose_of message) ≡ false
     no_request Heartbeat = refl
+    no_request (Time first_day) = refl
     no_request (Sync last) = refl
 
     periodic_leave : (number : ℕ) (ps : List Periodic) (ws : List Waiting)

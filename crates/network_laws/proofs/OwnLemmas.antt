@@ -26,8 +26,9 @@ use Rattle.nmt_boot.proofs.FrameLemmas.{received_holds}
 use Rattle.nmt_boot.proofs.PeriodicLemmas.{queue_has}
 use Rattle.nmt_boot.specs.Manager.{Manager, after_frame, after_step, manager_at_power_on, time_outs, timers}
 use Rattle.nmt_boot.specs.Periodic.{frame_of, purpose_of, sync_frame}
+use Rattle.nmt_boot.specs.TimeOfDay.{time_frame}
 use Rattle.nmt_boot.specs.declared.periodic_message.PeriodicMessage.{PeriodicMessage}
-use Rattle.nmt_boot.specs.declared.periodic_message.PeriodicMessage.TheVariants.{Heartbeat, Sync}
+use Rattle.nmt_boot.specs.declared.periodic_message.PeriodicMessage.TheVariants.{Heartbeat, Time, Sync}
 use Rattle.manager_nodes.specs.Table.{has_booted, is_from}
 use Rattle.manager_nodes.specs.Table.{no_node, node_after, node_at, place_of, queue_after_time_out, queue_after_time_outs}
 use Rattle.image_parts.specs.declared.start_mode.StartMode.{StartMode}
@@ -221,8 +222,9 @@ frame_owns image t frame m h =
 module _ (t : ℕ) where
   periodic_is : (number period : ℕ) (message : PeriodicMessage)
       → IsManagersFrame number (purpose_of message) (frame_of number t period message)
-  unfolding frame_of sync_frame
+  unfolding frame_of sync_frame time_frame
   periodic_is number period Heartbeat = refl
+  periodic_is number period (Time first_day) = refl
   periodic_is number period (Sync last) = refl
 
   outs_stay : (m : Manager) → StaysManager m (time_outs t m).0

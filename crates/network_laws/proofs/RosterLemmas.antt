@@ -14,7 +14,7 @@ use Rattle.can_frame.specs.Frames.{BaseFrame}
 use Rattle.can_frame.specs.Identifiers.{sdo_answer_id, sdo_request_id}
 use Rattle.can_frame.specs.WaitingFrames.{is_unwanted}
 use Rattle.can_frame.specs.declared.purpose.Purpose.{Purpose}
-use Rattle.can_frame.specs.declared.purpose.Purpose.TheVariants.{BootUp, Emergency, Heartbeat, Nmt, Sdo, Sync, Tpdo}
+use Rattle.can_frame.specs.declared.purpose.Purpose.TheVariants.{BootUp, Emergency, Heartbeat, Nmt, Sdo, Sync, Time, Tpdo}
 use Rattle.can_frame.specs.declared.unwanted.Unwanted.TheVariants.{SdoOf}
 use Rattle.co_device.specs.Device.{Device, without_power}
 use Rattle.image_parts.specs.Images.{AllDiffer, IsNode, IsRoster}
@@ -146,6 +146,7 @@ module _ (roster : Roster) (n : ℕ) (is : IsNodeNumber n) (apart : n ≢ roster
   own (Sdo k) e h = IsItsAnswer e h
   own Emergency e h = IsNone (emergency_foreign n is n is slot.frame h)
   own Sync e h = absurd h
+  own Time e h = absurd h
   own Nmt e h = absurd h
 
   of_manager : (p : Purpose) → slot.sender ≡ roster.manager → IsManagersFrame roster.manager p slot.frame
@@ -162,6 +163,7 @@ module _ (roster : Roster) (n : ℕ) (is : IsNodeNumber n) (apart : n ≢ roster
       same j x = grind (arith, Rattle.std.proofs.lemmas.Bool.Decides.nat_tests)
   of_manager Emergency e h true other = absurd h
   of_manager Sync e h true other = absurd cc
+  of_manager Time e h true other = absurd cc
   of_manager Nmt e h true other = absurd cc
 
   pub kind_of : IsSent roster slot → Is

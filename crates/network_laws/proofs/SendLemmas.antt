@@ -12,9 +12,10 @@ use Rattle.network_laws.specs.Boots.{IsBootUpOf}
 use Rattle.can_bus.specs.declared.slot.Slot.{Slot}
 use Rattle.can_frame.specs.Frames.{BaseFrame}
 use Rattle.can_frame.specs.Identifiers.{emergency_id, error_control_id, nmt_id, sdo_answer_id, sdo_request_id, sync_id}
+use Rattle.can_frame.specs.Identifiers.{time_id}
 use Rattle.can_frame.specs.WaitingFrames.{is_same, is_unwanted, waits_for}
 use Rattle.can_frame.specs.declared.purpose.Purpose.{Purpose}
-use Rattle.can_frame.specs.declared.purpose.Purpose.TheVariants.{BootUp, Emergency, Heartbeat, Nmt, Sdo, Sync, Tpdo}
+use Rattle.can_frame.specs.declared.purpose.Purpose.TheVariants.{BootUp, Emergency, Heartbeat, Nmt, Sdo, Sync, Time, Tpdo}
 use Rattle.can_frame.specs.declared.unwanted.Unwanted.TheVariants.{SdoOf, Sdos}
 use Rattle.can_frame.specs.declared.waiting.Waiting.{Waiting}
 use Rattle.base.specs.Ranges.{is_between}
@@ -183,6 +184,7 @@ module _ (node : ℕ) (is : IsNodeNumber node) where
     device_foreign (Sdo j) frame h apart = answer_foreign frame h apart
     device_foreign Emergency frame h apart = emergency_foreign frame h
     device_foreign Sync frame h apart = absurd h
+    device_foreign Time frame h apart = absurd h
     device_foreign Nmt frame h apart = absurd h
 
     pub manager_foreign : (p : Purpose) (frame : BaseFrame) → IsManagersFrame k p frame → k ≢ node
@@ -210,6 +212,7 @@ module _ (node : ℕ) (is : IsNodeNumber node) where
             control a n b = let top = n.1 in omega (arith, a, b, top)
     manager_foreign Emergency frame h apart other = absurd h
     manager_foreign Sync frame h apart other = low_foreign frame sync_id h (omega arith)
+    manager_foreign Time frame h apart other = low_foreign frame time_id h (omega arith)
     manager_foreign Nmt frame h apart other = low_foreign frame nmt_id h (omega arith)
 
 -- ---- a frame that is none of the exchange starts
@@ -459,6 +462,7 @@ module _ (image : Image) (node : ℕ) (is : IsNodeNumber node) where
         other_starts (emergency_foreign node is node is slot.frame (ap (λ (x : BaseFrame). x.id) same ∙ o))
         (ap (λ (q : Purpose). is_same q BootUp) e) (ap (λ (q : Purpose). is_unwanted Sdos q) e) h
     by_purpose Sync e o same silent h = absurd o
+    by_purpose Time e o same silent h = absurd o
     by_purpose Nmt e o same silent h = absurd o
 
     pub own_starts : IsOwnFrame node own.purpose own.frame → slot.frame ≡ own.frame

@@ -22,7 +22,7 @@ use Rattle.can_frame.specs.WaitingFrames.{is_unwanted, waiting}
 use Rattle.can_frame.specs.Winner.{IsWinner, contenders_of, is_below, winner_of}
 use Rattle.can_frame.specs.declared.contender.Contender.{Contender}
 use Rattle.can_frame.specs.declared.purpose.Purpose.{Purpose}
-use Rattle.can_frame.specs.declared.purpose.Purpose.TheVariants.{BootUp, Emergency, Heartbeat, Nmt, Sdo, Sync, Tpdo}
+use Rattle.can_frame.specs.declared.purpose.Purpose.TheVariants.{BootUp, Emergency, Heartbeat, Nmt, Sdo, Sync, Time, Tpdo}
 use Rattle.can_frame.specs.declared.unwanted.Unwanted.TheVariants.{SdoOf, Sdos}
 use Rattle.can_frame.specs.declared.waiting.Waiting.{Waiting}
 use Rattle.can_frame.proofs.WinnerLemmas.{contender_at, length-contenders_of, winner_of-wins}
@@ -140,6 +140,7 @@ module _ (d : Device) (own : DeviceOwns d) (c : Contender)
       lower a b = omega (arith, a, b)
   no_answer is k l Emergency f = refl
   no_answer is k l Sync f = refl
+  no_answer is k l Time f = refl
   no_answer is k l Nmt f = refl
 
   pub boot_up_silent : sent.purpose ≡ BootUp → answers_of d.waiting ≡ []
@@ -180,6 +181,7 @@ is_request manager n (Sdo j) frame h e = h.1 ∙ ap sdo_request_id (sym same)
     same = grind (arith, nat_tests)
 is_request manager n Emergency frame h e = absurd h
 is_request manager n Sync frame h e = absurd cc
+is_request manager n Time frame h e = absurd cc
 is_request manager n Nmt frame h e = absurd cc
 
 not_found : (c : Contender) (ds : List Device) → sender_place c ds ≡ None → (k : ℕ) (d : Device) → k < length ds

@@ -7,7 +7,7 @@ use Rattle.std.proofs.lemmas.List.Elements.{filter-append}
 use Rattle.can_frame.specs.Frames.{BaseFrame}
 use Rattle.can_frame.specs.WaitingFrames.{is_same, is_unwanted, waiting, with_latest, without_unwanted}
 use Rattle.can_frame.specs.declared.purpose.Purpose.{Purpose}
-use Rattle.can_frame.specs.declared.purpose.Purpose.TheVariants.{BootUp, Emergency, Heartbeat, Nmt, Sdo, Sync, Tpdo}
+use Rattle.can_frame.specs.declared.purpose.Purpose.TheVariants.{BootUp, Emergency, Heartbeat, Nmt, Sdo, Sync, Time, Tpdo}
 use Rattle.can_frame.specs.declared.unwanted.Unwanted.TheVariants.{SdoOf}
 use Rattle.can_frame.specs.declared.waiting.Waiting.{Waiting}
 use Rattle.can_frame.proofs.PurposeLemmas.{same_purpose}
@@ -140,6 +140,7 @@ module _ (n : ℕ) where
         is a b f = grind (arith, nat_tests)
     not_both Emergency e = refl
     not_both Sync e = refl
+    not_both Time e = refl
     not_both Nmt e = refl
 
     kept : (b c : Bool) (w : Waiting) (rest ws : List Waiting) → (b ≡ true → c ≡ false)

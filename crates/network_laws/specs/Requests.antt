@@ -2,10 +2,10 @@
 use Rattle.std.specs.Prelude.{◌≡◌, ℕ, ◌<◌, List, ◌++◌, All, filter, length, map}
 use Rattle.can_frame.specs.ErrorControl.{IsBootUp}
 use Rattle.can_frame.specs.Frames.{BaseFrame}
-use Rattle.can_frame.specs.Identifiers.{error_control_id, nmt_id, sdo_request_id, sync_id}
+use Rattle.can_frame.specs.Identifiers.{error_control_id, nmt_id, sdo_request_id, sync_id, time_id}
 use Rattle.can_frame.specs.WaitingFrames.{is_unwanted}
 use Rattle.can_frame.specs.declared.purpose.Purpose.{Purpose}
-use Rattle.can_frame.specs.declared.purpose.Purpose.TheVariants.{BootUp, Emergency, Heartbeat, Nmt, Sdo, Sync, Tpdo}
+use Rattle.can_frame.specs.declared.purpose.Purpose.TheVariants.{BootUp, Emergency, Heartbeat, Nmt, Sdo, Sync, Time, Tpdo}
 use Rattle.can_frame.specs.declared.unwanted.Unwanted.TheVariants.{SdoOf}
 use Rattle.can_frame.specs.declared.waiting.Waiting.{Waiting}
 use Rattle.nmt_boot.specs.Manager.{Manager}
@@ -38,6 +38,7 @@ IsManagersFrame number (Tpdo k) frame = ⊥
 IsManagersFrame number (Sdo node) frame = IsNodeNumber node × (frame.id ≡ sdo_request_id node)
 IsManagersFrame number Emergency frame = ⊥
 IsManagersFrame number Sync frame = frame.id ≡ sync_id
+IsManagersFrame number Time frame = frame.id ≡ time_id
 IsManagersFrame number Nmt frame = frame.id ≡ nmt_id
 
 -- EACH FRAME THAT WAITS AT THE MANAGER IS ITS OWN, and its nodes have numbers of nodes

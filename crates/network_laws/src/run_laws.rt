@@ -15,10 +15,10 @@ ghost use Rattle.image_parts.specs.Contents.{roster_of, Image};
 ghost use Rattle.image_parts.specs.Images.{IsImage};
 ghost use Rattle.image_parts.specs.declared.part.Part.TheVariants as part;
 ghost use Rattle.sdo_client.specs.declared.client_transfer.ClientTransfer.{ClientTransfer as Transfer};
-ghost use Rattle.nmt_boot.specs.Beats.{IsMultiple, IsOnTime, due_messages};
-ghost use Rattle.nmt_boot.specs.Periodic.{messages, period_of};
+ghost use Rattle.nmt_boot.specs.Beats.{HasNumbersOf, IsMultiple, IsOnTime, due_messages};
+ghost use Rattle.nmt_boot.specs.Periodic.{period_of};
 ghost use Rattle.nmt_boot.specs.declared.periodic_message.PeriodicMessage.{PeriodicMessage as Message};
-ghost use Rattle.nmt_boot.specs.declared.periodic_message.PeriodicMessage.TheVariants.{Heartbeat, Sync};
+ghost use Rattle.nmt_boot.specs.declared.periodic_message.PeriodicMessage.TheVariants.{Heartbeat, Sync, Time};
 ghost use Rattle.manager_nodes.specs.Table.{all_configured, node_at};
 ghost use Rattle.image_parts.specs.declared.start_mode.StartMode.TheVariants.{EachNode};
 ghost use Rattle.node_boot.specs.Boot.{deadline_of};
@@ -41,16 +41,19 @@ pub fn a_run_goes_instant_by_instant()
 /// At every moment of a run the manager has exactly the periodic messages of the roster, in their order, each with its
 /// period and its next moment: the first whole multiple of that period from there on. So what is due at a moment are
 /// those of which it is a whole multiple above 0 of the period, and no other: the heartbeat at those of the heartbeat
-/// time, and SYNC at those of the SYNC period.
+/// time, TIME at those of the TIME period, and SYNC at those of the SYNC period.
 pub fn periodic_messages_are_due_at_whole_multiples()
     ensures all { (image : Image) (t : ℕ) → IsOnTime (roster_of (image part.Roster)) t (bus_at image t).manager }
     ensures each { (image : Image) (t : ℕ) (message : Message)
         → Contains (due_messages t (bus_at image t).manager.periodic) message
-        ↔ (Contains (messages (roster_of (image part.Roster)).sync_counter) message
+        ↔ (HasNumbersOf (roster_of (image part.Roster)) message
         × IsMultiple t (period_of (roster_of (image part.Roster)) message)) }
     ensures heartbeat { (image : Image) (t : ℕ)
         → Contains (due_messages t (bus_at image t).manager.periodic) Heartbeat
         ↔ IsMultiple t (1000 * (roster_of (image part.Roster)).heartbeat_ms) }
+    ensures time { (image : Image) (t : ℕ)
+        → Contains (due_messages t (bus_at image t).manager.periodic) (Time (roster_of (image part.Roster)).first_day)
+        ↔ IsMultiple t (roster_of (image part.Roster)).time_us }
     ensures sync { (image : Image) (t : ℕ)
         → Contains (due_messages t (bus_at image t).manager.periodic)
         (Sync (roster_of (image part.Roster)).sync_counter)

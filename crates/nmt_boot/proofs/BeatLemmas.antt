@@ -12,11 +12,12 @@ use Rattle.base.specs.Moments.{is_due, moment_after}
 use Rattle.image_parts.specs.declared.roster.Roster.{Roster}
 use Rattle.co_scenario.specs.declared.nmt_command.NmtCommand.{NmtCommand}
 use Rattle.nmt_boot.proofs.FrameLemmas.{received_holds}
-use Rattle.nmt_boot.specs.Beats.{IsFirstMultiple, IsMultiple, IsNextOf, IsOnTime, IsTimed, due_messages}
+use Rattle.nmt_boot.specs.Beats.{HasNumbersOf, IsFirstMultiple, IsMultiple, IsNextOf, IsOnTime, IsTimed, due_messages}
 use Rattle.nmt_boot.specs.Manager.{Manager, with_command, manager_at_power_on, after_frame, time_outs, timers}
-use Rattle.nmt_boot.specs.Periodic.{first_of as set_first, messages, period_of, periodic_after}
+use Rattle.nmt_boot.specs.Periodic.{first_of as set_first, messages_of, period_of, periodic_after}
 use Rattle.nmt_boot.specs.declared.periodic.Periodic.{Periodic}
 use Rattle.nmt_boot.specs.declared.periodic_message.PeriodicMessage.{PeriodicMessage}
+use Rattle.nmt_boot.specs.declared.periodic_message.PeriodicMessage.TheVariants.{Heartbeat, Time, Sync}
 
 -- one number is below another, or not
 apart : (j k : ℕ) → (j ≤ k) ⊎ (suc k ≤ j)
@@ -119,6 +120,29 @@ due_next t period next h = (
   at_multiple t period next h,
 )
 
+-- ---- the messages
+
+-- a message of a network is one of its list, with the numbers that the network gives it
+is_numbered : (network : Roster) (m : PeriodicMessage) (k : ℕ) → k < length (messages_of network)
+    → slice_index_or (messages_of network) k m ≡ m → HasNumbersOf network m
+is_numbered network Heartbeat k within is = tt
+is_numbered network (Time first_day) zero within is = absurd cc
+is_numbered network (Time first_day) (suc zero) within is = cc
+is_numbered network (Time first_day) (suc (suc zero)) within is = absurd cc
+is_numbered network (Sync last) zero within is = absurd cc
+is_numbered network (Sync last) (suc zero) within is = absurd cc
+is_numbered network (Sync last) (suc (suc zero)) within is = cc
+is_numbered network _ (suc (suc (suc k))) within is = absurd (omega (arith, within))
+
+-- and each kind of message is in the list: one that isn't gets no clause here
+is_there : (network : Roster) (m : PeriodicMessage) → HasNumbersOf network m → Contains (messages_of network) m
+is_there network Heartbeat has = (0, omega arith, refl)
+is_there network (Time first_day) has = (1, omega arith, ap Time (sym has))
+is_there network (Sync last) has = (2, omega arith, ap Sync (sym has))
+
+pub all_there : (network : Roster) (m : PeriodicMessage) → Contains (messages_of network) m ↔ HasNumbersOf network m
+all_there network m = (λ c. is_numbered network m c.0 c.1 c.2, is_there network m)
+
 -- ---- the manager
 
 module _ (network : Roster) where
@@ -128,7 +152,7 @@ module _ (network : Roster) where
 
   pub on_time_first : IsOnTime network 0 (manager_at_power_on network)
   unfolding manager_at_power_on
-  on_time_first = all_first (messages network.sync_counter)
+  on_time_first = all_first (messages_of network)
 
   one_after : (t : ℕ) (m : PeriodicMessage) (p : Periodic) → IsTimed network t m p
       → IsTimed network (t + 1) m (periodic_after t p)
@@ -156,7 +180,7 @@ module _ (network : Roster) where
 
   pub timers_on_time : (t : ℕ) (m : Manager) → IsOnTime network t m → IsOnTime network (t + 1) (timers t m).0
   unfolding timers time_outs
-  timers_on_time t m h = all_after t (messages network.sync_counter) m.periodic h
+  timers_on_time t m h = all_after t (messages_of network) m.periodic h
 
   pub command_on_time : (t : ℕ) (command : NmtCommand) (node : ℕ) (m : Manager) → IsOnTime network t m
       → IsOnTime network t (with_command command node m)
@@ -234,9 +258,10 @@ module _ (network : Roster) (t : ℕ) where
 
   pub due_at_multiples : (m : Manager) (message : PeriodicMessage) → IsOnTime network t m
       → Contains (due_messages t m.periodic) message
-      ↔ (Contains (messages network.sync_counter) message × IsMultiple t (period_of network message))
+      ↔ (HasNumbersOf network message × IsMultiple t (period_of network message))
   due_at_multiples m message h = (
-    λ due. due_comes message (messages network.sync_counter) m.periodic h due.0 due.1 due.2,
-    λ sent. let one = sent.0 in
-        comes_due message (messages network.sync_counter) m.periodic h one.0 one.1 one.2 sent.1,
+    λ due. let sent = due_comes message (messages_of network) m.periodic h due.0 due.1 due.2 in
+        ((all_there network message).0 sent.0, sent.1),
+    λ sent. let one = (all_there network message).1 sent.0 in
+        comes_due message (messages_of network) m.periodic h one.0 one.1 one.2 sent.1,
   )

@@ -1,4 +1,4 @@
--- What is due periodically waits then; SYNC's counter counts from 1 to its last number, and then from 1 again.
+-- What is due periodically waits then; TIME tells the time, and SYNC's counter counts from 1 to its last number, and then from 1 again.
 use Rattle.std.proofs.Common.{◌≡◌, ℕ, zero, suc, ◌+◌, ◌-◌, ◌*◌, ◌/◌, ◌%◌, ◌<◌, ◌≤◌, Bool, true, false, List, [], ◌∷◌}
 use Rattle.std.proofs.Common.{length, refl, ap, ◌∙◌, subst, arith}
 use Rattle.std.specs.Prelude.{◌==◌, Contains, slice_index_or, if◌then◌else◌}
@@ -12,15 +12,16 @@ use Rattle.can_frame.specs.declared.purpose.Purpose.{Purpose}
 use Rattle.can_frame.specs.declared.purpose.Purpose.TheVariants as purpose
 use Rattle.can_frame.specs.declared.waiting.Waiting.{Waiting}
 use Rattle.image_parts.specs.declared.roster.Roster.{Roster}
-use Rattle.nmt_boot.proofs.BeatLemmas.{due_at}
-use Rattle.nmt_boot.specs.Beats.{IsMultiple, IsOnTime, IsTimed}
+use Rattle.nmt_boot.proofs.BeatLemmas.{all_there, due_at}
+use Rattle.nmt_boot.specs.Beats.{HasNumbersOf, IsMultiple, IsOnTime, IsTimed}
 use Rattle.nmt_boot.specs.Counter.{IsCounting, sync_with}
 use Rattle.nmt_boot.specs.Manager.{Manager, time_outs, timers}
-use Rattle.nmt_boot.specs.Periodic.{frame_of, messages, period_of, purpose_of, queue_after, queue_after_one, sync_frame}
-use Rattle.nmt_boot.specs.Periodic.{sync_number}
+use Rattle.nmt_boot.specs.Periodic.{frame_of, messages_of, period_of, purpose_of, queue_after, queue_after_one}
+use Rattle.nmt_boot.specs.Periodic.{sync_frame, sync_number}
+use Rattle.nmt_boot.specs.TimeOfDay.{time_frame}
 use Rattle.nmt_boot.specs.declared.periodic.Periodic.{Periodic}
 use Rattle.nmt_boot.specs.declared.periodic_message.PeriodicMessage.{PeriodicMessage}
-use Rattle.nmt_boot.specs.declared.periodic_message.PeriodicMessage.TheVariants.{Sync}
+use Rattle.nmt_boot.specs.declared.periodic_message.PeriodicMessage.TheVariants.{Time, Sync}
 
 -- ---- the numbers
 
@@ -99,8 +100,8 @@ abbrev AreApart : List PeriodicMessage → Type 0
 AreApart [] = Unit {0}
 AreApart (m ∷ ms) = HasOwn (purpose_of m) ms × AreApart ms
 
-all_apart : (last : ℕ) → AreApart (messages last)
-all_apart last = ((refl, tt), (tt, tt))
+all_apart : (network : Roster) → AreApart (messages_of network)
+all_apart network = ((refl, (refl, tt)), ((refl, tt), (tt, tt)))
 
 module _ (network : Roster) (t number : ℕ) where
   others_keep : (w : Waiting) (ms : List PeriodicMessage) (ps : List Periodic) → AllZip (IsTimed network t) ms ps
@@ -142,20 +143,27 @@ module _ (network : Roster) (t number : ℕ) where
         waits ms ps h.1 apart.1 i (omega (arith, within)) is (queue_after_one t number p ws)
 
 pub queued : (network : Roster) (t : ℕ) (m : Manager) (message : PeriodicMessage) → IsOnTime network t m
-    → Contains (messages network.sync_counter) message → IsMultiple t (period_of network message)
+    → HasNumbersOf network message → IsMultiple t (period_of network message)
     → Contains (timers t m).0.waiting
     (waiting (purpose_of message) (frame_of m.number t (period_of network message) message))
 unfolding timers time_outs
-queued network t m message h one at =
-    waits network t m.number message at (messages network.sync_counter) m.periodic h
-    (all_apart network.sync_counter) one.0 one.1 one.2 _
+queued network t m message h has at =
+    let one = (all_there network message).1 has in
+    waits network t m.number message at (messages_of network) m.periodic h (all_apart network) one.0 one.1 one.2 _
+
+-- ---- TIME
+
+pub time_waits : (network : Roster) (t : ℕ) (m : Manager) → IsOnTime network t m → IsMultiple t network.time_us
+    → Contains (timers t m).0.waiting (waiting purpose.Time (time_frame network.first_day t))
+unfolding frame_of
+time_waits network t m h at = queued network t m (Time network.first_day) h refl at
 
 -- ---- SYNC
 
 sync_waits : (network : Roster) (t : ℕ) (m : Manager) → IsOnTime network t m → IsMultiple t network.sync_us
     → Contains (timers t m).0.waiting (waiting purpose.Sync (sync_frame network.sync_counter (t / network.sync_us)))
 unfolding frame_of
-sync_waits network t m h at = queued network t m (Sync network.sync_counter) h (1, omega arith, refl) at
+sync_waits network t m h at = queued network t m (Sync network.sync_counter) h refl at
 
 without_number : (last k : ℕ) → last ≡ 0 → sync_frame last k ≡ (sync_with []).frame
 unfolding sync_frame

@@ -15,7 +15,7 @@ use Rattle.can_frame.specs.Frames.{BaseFrame}
 use Rattle.can_frame.specs.Identifiers.{error_control_id, sdo_answer_id}
 use Rattle.can_frame.specs.WaitingFrames.{is_same, is_unwanted, waiting, with_latest, without_unwanted}
 use Rattle.can_frame.specs.declared.purpose.Purpose.{Purpose}
-use Rattle.can_frame.specs.declared.purpose.Purpose.TheVariants.{BootUp, Heartbeat, Tpdo, Sdo, Emergency, Sync, Nmt}
+use Rattle.can_frame.specs.declared.purpose.Purpose.TheVariants.{BootUp, Heartbeat, Tpdo, Sdo, Emergency, Sync, Time, Nmt}
 use Rattle.can_frame.specs.declared.unwanted.Unwanted.TheVariants.{SdoOf}
 use Rattle.can_frame.specs.declared.waiting.Waiting.{Waiting}
 use Rattle.image_parts.specs.Contents.{Image}
@@ -104,6 +104,7 @@ IsNoCommand own = (other : Purpose) (rest : Bool) → is_same other own ≡ true
 
 is_none : (message : PeriodicMessage) → IsNoCommand (purpose_of message)
 is_none periodic.Heartbeat Nmt rest e = cc
+is_none (periodic.Time first_day) Nmt rest e = cc
 is_none (periodic.Sync last) Nmt rest e = cc
 is_none message BootUp rest e = refl
 is_none message (Tpdo number) rest e = refl
@@ -111,9 +112,11 @@ is_none message (Sdo other) rest e = refl
 is_none message Emergency rest e = refl
 is_none message Heartbeat rest e = refl
 is_none message Sync rest e = refl
+is_none message Time rest e = refl
 
 its_own : (message : PeriodicMessage) → is_same (purpose_of message) (purpose_of message) ≡ true
 its_own periodic.Heartbeat = refl
+its_own (periodic.Time first_day) = refl
 its_own (periodic.Sync last) = refl
 
 module _ (own : Purpose) (same : is_same own own ≡ true) (none : IsNoCommand own) (frame : BaseFrame) where

@@ -4,9 +4,10 @@ use Rattle.std.specs.List.{AllZip}
 use Rattle.base.specs.Moments.{is_due}
 use Rattle.image_parts.specs.declared.roster.Roster.{Roster}
 use Rattle.nmt_boot.specs.Manager.{Manager}
-use Rattle.nmt_boot.specs.Periodic.{messages, period_of}
+use Rattle.nmt_boot.specs.Periodic.{messages_of, period_of}
 use Rattle.nmt_boot.specs.declared.periodic.Periodic.{Periodic}
 use Rattle.nmt_boot.specs.declared.periodic_message.PeriodicMessage.{PeriodicMessage}
+use Rattle.nmt_boot.specs.declared.periodic_message.PeriodicMessage.TheVariants.{Heartbeat, Time, Sync}
 
 -- a whole multiple of a period, above 0
 abbrev pub IsMultiple : ℕ → ℕ → Type 0
@@ -29,9 +30,15 @@ pub record IsTimed (network : Roster) (t : ℕ) (which : PeriodicMessage) (p : P
   pub period : p.period ≡ period_of network which
   pub next : IsNextOf t p.period p.next
 
+-- a message with the numbers that a network gives it: every kind of message is one of each network
+abbrev pub HasNumbersOf : Roster → PeriodicMessage → Type 0
+HasNumbersOf network Heartbeat = Unit {0}
+HasNumbersOf network (Time first_day) = first_day ≡ network.first_day
+HasNumbersOf network (Sync last) = last ≡ network.sync_counter
+
 -- THE MANAGER IS ON TIME: it has each periodic message of its network, in their order, with its next moment
 abbrev pub IsOnTime : Roster → ℕ → Manager → Type 0
-IsOnTime network t m = AllZip (IsTimed network t) (messages network.sync_counter) m.periodic
+IsOnTime network t m = AllZip (IsTimed network t) (messages_of network) m.periodic
 
 -- those that are due at a moment
 abbrev pub due_messages : ℕ → List Periodic → List PeriodicMessage

@@ -1,3 +1,4 @@
+pub mod TimeOfDay
 pub mod Periodic
 pub mod Manager
 pub mod Startup

@@ -20,7 +20,7 @@ use Rattle.node_boot.specs.declared.boot_step.BootStep.{BootStep}
 use Rattle.manager_nodes.specs.Table.{unseen_node, node_at, place_of, with_stage, note_of_loss, notes_of, sdo_frames}
 use Rattle.manager_nodes.specs.Table.{deadlines, node_after, note_of_time_out, queue_after_time_outs, timed_out}
 use Rattle.manager_nodes.specs.declared.booting.Booting.{Booting}
-use Rattle.nmt_boot.specs.Periodic.{first_of, messages, next_moments, periodic_after, queue_after, silent}
+use Rattle.nmt_boot.specs.Periodic.{first_of, messages, messages_of, next_moments, periodic_after, queue_after, silent}
 use Rattle.nmt_boot.specs.declared.periodic.Periodic.{Periodic}
 use Rattle.nmt_boot.specs.Startup.{Startup, no_startup, startup_of, nmt_frame, start_frames, startup_after}
 use Rattle.can_frame.specs.ErrorControl.{boot_up_message}
@@ -43,7 +43,7 @@ blank = record {
   spent = false;
   number = 0;
   timeout = 0;
-  periodic = map silent (messages 0);
+  periodic = map silent (messages 0 0);
   startup = no_startup;
   nodes = [];
   waiting = [];
@@ -56,7 +56,7 @@ manager_at_power_on roster = record {
   spent = false;
   number = roster.manager;
   timeout = 1000 * roster.timeout_ms;
-  periodic = map (first_of roster) (messages roster.sync_counter);
+  periodic = map (first_of roster) (messages_of roster);
   startup = startup_of roster;
   nodes = map unseen_node roster.nodes;
   waiting = waiting BootUp (boot_up_message roster.manager) ∷ [];

@@ -14,21 +14,29 @@ use Rattle.cia301.specs.declared.nmt_state.NmtState.TheVariants.{Operational}
 use Rattle.image_parts.specs.declared.roster.Roster.{Roster}
 use Rattle.nmt_boot.specs.declared.periodic.Periodic.{Periodic}
 use Rattle.nmt_boot.specs.declared.periodic_message.PeriodicMessage.{PeriodicMessage}
-use Rattle.nmt_boot.specs.declared.periodic_message.PeriodicMessage.TheVariants.{Heartbeat, Sync}
+use Rattle.nmt_boot.specs.declared.periodic_message.PeriodicMessage.TheVariants.{Heartbeat, Time, Sync}
+use Rattle.nmt_boot.specs.TimeOfDay.{time_frame}
 
 -- ---- which messages, how often, and in which frames
 
--- all of them, in the order in which those of one moment are queued; SYNC's counter has this last number, 0 for none
-abbrev pub messages : ℕ → List PeriodicMessage
-messages last = Heartbeat ∷ Sync last ∷ []
+-- all of them, in the order in which those of one moment are queued: the run begins at midnight of this first day of
+-- TIME, and SYNC's counter has this last number, 0 for none
+abbrev pub messages : ℕ → ℕ → List PeriodicMessage
+messages first_day last = Heartbeat ∷ Time first_day ∷ Sync last ∷ []
+
+-- those of a network
+abbrev pub messages_of : Roster → List PeriodicMessage
+messages_of roster = messages roster.first_day roster.sync_counter
 
 -- the period in microseconds; 0 for none
 abbrev pub period_of : Roster → PeriodicMessage → ℕ
 period_of roster Heartbeat = 1000 * roster.heartbeat_ms
+period_of roster (Time first_day) = roster.time_us
 period_of roster (Sync last) = roster.sync_us
 
 abbrev pub purpose_of : PeriodicMessage → Purpose
 purpose_of Heartbeat = purpose.Heartbeat
+purpose_of (Time first_day) = purpose.Time
 purpose_of (Sync last) = purpose.Sync
 
 -- the number that the k-th SYNC of a run carries: they count from 1 to the last number, and then from 1 again
@@ -42,6 +50,7 @@ sync_frame last k = record { id = sync_id; bytes = if last == 0 then [] else syn
 -- that of the moment t, by the manager of a number; a heartbeat is of state Operational
 unfoldable pub frame_of : ℕ → ℕ → ℕ → PeriodicMessage → BaseFrame
 frame_of number t period Heartbeat = error_control_frame number (state_byte Operational)
+frame_of number t period (Time first_day) = time_frame first_day t
 frame_of number t period (Sync last) = sync_frame last (t / period)
 
 -- ---- when

@@ -12,13 +12,13 @@ ghost use Rattle.image_parts.specs.declared.roster.Roster.{Roster as Network};
 ghost use Rattle.image_parts.specs.declared.start_mode.StartMode.TheVariants.{ConfiguredNodes, EachNode};
 ghost use Rattle.co_scenario.specs.declared.nmt_command.NmtCommand.{NmtCommand};
 ghost use Rattle.nmt_boot.specs.Ahead.{IsAhead};
-ghost use Rattle.nmt_boot.specs.Beats.{IsMultiple, IsOnTime, due_messages};
+ghost use Rattle.nmt_boot.specs.Beats.{HasNumbersOf, IsMultiple, IsOnTime, due_messages};
 ghost use Rattle.nmt_boot.specs.Counter.{IsCounting, sync_with};
 ghost use Rattle.nmt_boot.specs.Ends.{configured_note, WritesEnd};
 ghost use Rattle.nmt_boot.specs.Manager.{Manager as State, with_command, manager_at_power_on, after_frame};
 ghost use Rattle.manager_nodes.specs.Table.{node_at};
 ghost use Rattle.nmt_boot.specs.Manager.{timers};
-ghost use Rattle.nmt_boot.specs.Periodic.{frame_of, messages, period_of, purpose_of, sync_number};
+ghost use Rattle.nmt_boot.specs.Periodic.{frame_of, messages_of, period_of, purpose_of, sync_number};
 ghost use Rattle.nmt_boot.specs.declared.periodic_message.PeriodicMessage.{PeriodicMessage as Message};
 ghost use Rattle.nmt_boot.specs.Starts.{HasNodeNumbers, KeepsStart, StartsNetwork, network_starts};
 
@@ -59,9 +59,17 @@ pub fn a_frame_changes_its_node_alone()
         → node_at (outcome (after_frame t frame m) image).0.nodes j ≡ node_at m.nodes j }
 {}
 
-/// What the manager sends periodically, its heartbeat and SYNC and nothing else, is due at the whole multiples of its
-/// period above 0, and at no other moment: it is set so at power-on, and after each frame, each command, and the timers
-/// of each moment. Where it is due its frame waits then.
+/// A manager has a message of each kind that there is, once, with the numbers that its network gives it, and no other:
+/// its heartbeat, TIME and SYNC.
+#[tactic(auto, using(crate::proofs::BeatLemmas::all_there))]
+pub fn no_periodic_message_is_forgotten()
+    ensures { (network : Network) (message : Message)
+        → Contains (messages_of network) message ↔ HasNumbersOf network message }
+{}
+
+/// What the manager sends periodically, its heartbeat, TIME and SYNC and nothing else, is due at the whole multiples of
+/// its period above 0, and at no other moment: it is set so at power-on, and after each frame, each command, and the
+/// timers of each moment. Where it is due its frame waits then.
 #[tactic(auto, using(crate::proofs::BeatLemmas::on_time_first, crate::proofs::BeatLemmas::timers_on_time, crate::proofs::CounterLemmas::queued))]
 pub fn periodic_messages_come_at_whole_multiples()
     ensures first { (network : Network) → IsOnTime network 0 (manager_at_power_on network) }
@@ -73,9 +81,9 @@ pub fn periodic_messages_come_at_whole_multiples()
         → IsOnTime network (t + 1) (timers t m).0 }
     ensures due { (network : Network) (t : ℕ) (m : State) (message : Message) → IsOnTime network t m
         → Contains (due_messages t m.periodic) message
-        ↔ (Contains (messages network.sync_counter) message × IsMultiple t (period_of network message)) }
+        ↔ (HasNumbersOf network message × IsMultiple t (period_of network message)) }
     ensures queued { (network : Network) (t : ℕ) (m : State) (message : Message) → IsOnTime network t m
-        → Contains (messages network.sync_counter) message → IsMultiple t (period_of network message)
+        → HasNumbersOf network message → IsMultiple t (period_of network message)
         → Contains (timers t m).0.waiting
         (waiting (purpose_of message) (frame_of m.number t (period_of network message) message)) }
 {}

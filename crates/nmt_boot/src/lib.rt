@@ -8,6 +8,7 @@ mod periodic_message;
 mod startup;
 mod sync;
 mod telling;
+mod time;
 
 pub use manager::Manager;
 pub use periodic::Periodic;

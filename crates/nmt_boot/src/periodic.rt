@@ -70,16 +70,16 @@ impl Periodic {
 
 /// All that a manager of no network has: none of it ever comes.
 pub(crate) fn none() -> [Periodic; MESSAGES]
-    ensures { result ≡ map rules.silent (rules.messages 0) }
+    ensures { result ≡ map rules.silent (rules.messages 0 0) }
 {
-    PeriodicMessage::all(0).map(Periodic::silent)
+    PeriodicMessage::all(0, 0).map(Periodic::silent)
 }
 
 /// All that the manager of a network has at the power-on.
 pub(crate) fn powered_on(roster: &Roster) -> [Periodic; MESSAGES]
-    ensures { result ≡ map (rules.first_of roster.now) (rules.messages roster.now.sync_counter) }
+    ensures { result ≡ map (rules.first_of roster.now) (rules.messages_of roster.now) }
 {
-    PeriodicMessage::all(roster.sync_counter).map(|message| Periodic::first_of(roster, message))
+    PeriodicMessage::all_of(roster).map(|message| Periodic::first_of(roster, message))
 }
 
 /// Queues what is due at the moment t, by the manager of a number. Takes time by the number of frames that wait where

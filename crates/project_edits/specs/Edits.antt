@@ -1,23 +1,28 @@
 -- What every edit keeps to (this profile's own).
-use Rattle.std.specs.Prelude.{◌≡◌, ℕ, Bool, List, true}
+use Rattle.std.specs.Prelude.{◌≡◌, ℕ, Bool, List, true, IfSome}
 use Rattle.co_scenario.specs.declared.event.Event.{Event}
 use Rattle.co_scenario.specs.declared.event.Event.TheVariants as event
 use Rattle.project_edits.specs.declared.edit.Edit.{Edit}
 use Rattle.project_edits.specs.declared.edit.Edit.TheVariants as edit
 use Rattle.project_edits.specs.declared.manager_settings.ManagerSettings.{ManagerSettings}
+use Rattle.project_edits.specs.declared.time_stamps.TimeStamps.{TimeStamps}
 use Rattle.base.specs.Ranges.{is_between, AreIndices}
 use Rattle.project_messages.specs.Messages.{IsMessage, is_position, is_rpdo_or_any, is_start}
 use Rattle.project_edits.specs.Forms.{is_name, is_text, is_node_or_all, is_own_index, is_bit_rate, is_time}
 use Rattle.cia301.specs.Limits.{is_node_number}
-use Rattle.project_edits.specs.Forms.{is_sync_counter, is_sync_period, is_event_number}
+use Rattle.project_edits.specs.Forms.{is_sync_counter, is_period, is_event_number}
 use Rattle.project_edits.specs.Eds.{IsEds}
 
 -- the manager (CiA 302): the number of its node, the period of SYNC, and in milliseconds its heartbeat's time and the
 -- longest wait for an SDO answer
 unfoldable pub IsManager : ManagerSettings → Type 0
 IsManager m =
-    (is_node_number m.id ≡ true) × (is_sync_period m.sync_us ≡ true) × (is_between 0 65535 m.heartbeat_ms ≡ true)
+    (is_node_number m.id ≡ true) × (is_period m.sync_us ≡ true) × (is_between 0 65535 m.heartbeat_ms ≡ true)
     × (is_between 1 65535 m.timeout_ms ≡ true)
+
+-- time stamps: they come periodically, and their days have 16 bits
+unfoldable pub AreTimeStamps : TimeStamps → Type 0
+AreTimeStamps t = (is_between 1000 10000000 t.period_us ≡ true) × (is_between 0 65535 t.first_day ≡ true)
 
 -- a parameter of a node, or what an event sets
 unfoldable pub IsSetting : ℕ → ℕ → List ℕ → Type 0
@@ -35,6 +40,7 @@ IsEdit (edit.Version version) = Unit {0}
 IsEdit (edit.Bitrate rate) = is_bit_rate rate ≡ true
 IsEdit (edit.Horizon time) = is_time time ≡ true
 IsEdit (edit.Manager m) = IsManager m
+IsEdit (edit.TimeStamps stamps) = IfSome stamps AreTimeStamps
 IsEdit (edit.SyncCounter n) = is_sync_counter n ≡ true
 IsEdit (edit.Eds name text) = IsEds name text
 IsEdit (edit.DropEds name) = is_name name ≡ true

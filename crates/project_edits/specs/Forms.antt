@@ -59,9 +59,9 @@ is_bit_rate n = list_any (λ rate. n == rate) bit_rates
 abbrev pub is_time : ℕ → Bool
 is_time n = is_between 0 10000000 n
 
--- the time between two SYNC messages in microseconds, a millisecond to ten seconds; 0 for none
-abbrev pub is_sync_period : ℕ → Bool
-is_sync_period n = n == 0 || is_between 1000 10000000 n
+-- the time between two SYNC messages, or two time stamps, in microseconds, a millisecond to ten seconds; 0 for none
+abbrev pub is_period : ℕ → Bool
+is_period n = n == 0 || is_between 1000 10000000 n
 
 -- the last number of a SYNC counter (CiA 301, synchronous counter overflow value); 0 for no counter
 abbrev pub is_sync_counter : ℕ → Bool

@@ -3,5 +3,6 @@ pub mod Accepts
 pub mod Forms
 pub mod Versions
 pub mod Eds
+pub mod Stamps
 pub mod Edits
 pub mod Lines

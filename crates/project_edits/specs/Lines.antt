@@ -1,5 +1,6 @@
 -- Edits as lines, as `project` prints them (this profile's own).
 use Rattle.std.specs.Prelude.{ℕ, Bool, List, [], ◌∷◌, ◌++◌, codes, decimal, if◌then◌else◌}
+use Rattle.project_edits.specs.Stamps.{first_day_of, period_of}
 use Rattle.std.specs.Str.{byte}
 use Rattle.base.specs.Digits.{byte_digits, index_digits, identifier_digits}
 use Rattle.base.specs.Lines.{line_feed, line_count}
@@ -34,6 +35,7 @@ words_of (edit.Bitrate rate) = codes "bitrate" ∷ decimal rate ∷ []
 words_of (edit.Horizon time) = codes "horizon" ∷ decimal time ∷ []
 words_of (edit.Manager m) = codes "manager" ∷ decimal m.id ∷ decimal m.sync_us ∷ decimal m.heartbeat_ms
     ∷ decimal m.timeout_ms ∷ []
+words_of (edit.TimeStamps stamps) = codes "time-period" ∷ decimal (period_of stamps) ∷ decimal (first_day_of stamps) ∷ []
 words_of (edit.SyncCounter n) = codes "sync-counter" ∷ decimal n ∷ []
 words_of (edit.Eds name text) = codes "eds" ∷ name ∷ decimal (line_count text) ∷ []
 words_of (edit.DropEds name) = codes "drop-eds" ∷ name ∷ []

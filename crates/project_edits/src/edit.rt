@@ -2,6 +2,7 @@
 
 use crate::manager_settings::ManagerSettings;
 use crate::script_version::ScriptVersion;
+use crate::time_stamps::TimeStamps;
 use base::{Octets, Shared};
 use co_scenario::TimedEvent;
 use project_messages::Message;
@@ -17,6 +18,8 @@ pub enum Edit {
     Horizon(u32),
     /// The manager (CiA 302) has other numbers.
     Manager(ManagerSettings),
+    /// The manager sends time stamps (CiA 301, TIME), or none. Scripts of versions 1 and 2 have none.
+    TimeStamps(Option<TimeStamps>),
     /// The counter of the SYNC messages (CiA 301, synchronous counter overflow value) has another last number,
     /// 2 to 240, or SYNC messages have no counter: 0.
     SyncCounter(u8),

@@ -12,6 +12,7 @@ mod link_lines;
 mod manager_settings;
 mod printing;
 mod script_version;
+mod time_stamps;
 mod written;
 
 pub use command::Command;
@@ -23,6 +24,7 @@ pub use link_lines::{write_message, write_receive, write_sink, write_source, wri
 pub use manager_settings::ManagerSettings;
 pub use printing::{
     write_bitrate, write_eds, write_horizon, write_manager, write_need, write_node, write_param,
-    write_sync_counter, write_version,
+    write_sync_counter, write_time_stamps, write_version,
 };
 pub use script_version::ScriptVersion;
+pub use time_stamps::TimeStamps;

@@ -6,7 +6,7 @@ ghost use Rattle.base.specs.Ranges.{is_between};
 ghost use Rattle.project_messages.specs.Messages.{is_position, is_rpdo_or_any, is_start};
 ghost use Rattle.project_edits.specs.Forms.{number_within, is_node_or_all, is_own_index, is_bit_rate, is_time};
 ghost use Rattle.cia301.specs.Limits.{is_node_number, is_pdo_number};
-ghost use Rattle.project_edits.specs.Forms.{is_sync_counter, is_sync_period, is_identifier};
+ghost use Rattle.project_edits.specs.Forms.{is_sync_counter, is_period, is_identifier};
 ghost use Rattle.project_edits.specs.Forms.{is_event_number};
 ghost use Rattle.project_edits.specs.Versions.{version_of};
 
@@ -16,7 +16,7 @@ use cia301::is_of_pdos;
 
 const MAX_TIME: u64 = 10_000_000;
 
-const MIN_SYNC_PERIOD: u64 = 1000;
+const MIN_PERIOD: u64 = 1000;
 
 const MIN_COUNTER: u64 = 2;
 
@@ -96,15 +96,15 @@ pub fn time(number: u64) -> Result<u32, EditFault>
     Ok(time as u32)
 }
 
-/// The time between two SYNC messages in microseconds, a millisecond to ten seconds; 0 for none.
-pub fn sync_period(number: u64) -> Result<u32, EditFault>
-    ensures value { Gives is_memory (λ n. n) result (number_within is_sync_period number) }
-    ensures within { IfOk result (λ n. is_sync_period n ≡ true) }
+/// The time between two SYNC messages, or two time stamps, in microseconds, a millisecond to ten seconds; 0 for none.
+pub fn period(number: u64) -> Result<u32, EditFault>
+    ensures value { Gives is_memory (λ n. n) result (number_within is_period number) }
+    ensures within { IfOk result (λ n. is_period n ≡ true) }
 {
     if number == 0 {
         return Ok(0);
     }
-    let period = number_within(number, MIN_SYNC_PERIOD, MAX_TIME)?;
+    let period = number_within(number, MIN_PERIOD, MAX_TIME)?;
     Ok(period as u32)
 }
 

@@ -2,7 +2,7 @@
 //! there is the beginning of what stands there then, and a part of the text may follow.
 #![tactic(auto, unfolding(crate::specs::Lines::text_of, crate::specs::Lines::line_of, crate::specs::Lines::words_of))]
 
-ghost use Rattle.std.specs.Prelude.{◌≡◌, ◌++◌, ◌∷◌, OnOk, OnErr, decimal};
+ghost use Rattle.std.specs.Prelude.{◌≡◌, ◌++◌, ◌∷◌, OnOk, OnErr, Some, decimal};
 ghost use Rattle.std.specs.Io.{StartsWith};
 ghost use Rattle.std.specs.Str.{byte};
 ghost use Rattle.project_edits.specs.Lines.{text_of};
@@ -10,6 +10,7 @@ ghost use Rattle.project_edits.specs.declared.edit.Edit.TheVariants as edit;
 
 use crate::manager_settings::ManagerSettings;
 use crate::script_version::ScriptVersion;
+use crate::time_stamps::TimeStamps;
 use crate::written::{write_number, write_target, write_word};
 use base::line_count;
 use std::alloc::{AllocError, Global};
@@ -75,6 +76,22 @@ pub fn write_manager(
     out.extend_from_slice(b"manager")?;
     write_number(out, u64::from(manager.id))?;
     write_periods(out, manager)?;
+    out.push(b'\n')?;
+    Ok(())
+}
+
+/// Writes `time-period US DAYS`.
+pub fn write_time_stamps(
+    out: &mut Vec<u8>,
+    alloc: Global,
+    stamps: TimeStamps,
+) -> Result<(), AllocError>
+    ensures written { OnOk result (out.new.items ≡ out.old.items ++ text_of (edit.TimeStamps (Some stamps))) }
+    ensures kept { OnErr result (StartsWith out.new.items out.old.items) }
+{
+    out.extend_from_slice(b"time-period")?;
+    write_number(out, u64::from(stamps.period_us))?;
+    write_number(out, u64::from(stamps.first_day))?;
     out.push(b'\n')?;
     Ok(())
 }

@@ -56,6 +56,7 @@ module _ (p : Project) where
   has_all (edit.Bitrate rate) kept = as_it_was _ refl refl
   has_all (edit.Horizon time) kept = as_it_was _ refl refl
   has_all (edit.Manager m) kept = as_it_was _ refl refl
+  has_all (edit.TimeStamps stamps) kept = as_it_was _ refl refl
   has_all (edit.SyncCounter n) kept = as_it_was _ refl refl
   has_all (edit.Eds name text) kept = record {
     texts = λ q there. key_stays nat_list_cmp_total p.texts name text q there;

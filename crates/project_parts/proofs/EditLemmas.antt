@@ -38,6 +38,7 @@ made p (edit.Version version) = record p { version = version }
 made p (edit.Bitrate rate) = record p { bitrate = rate }
 made p (edit.Horizon time) = record p { horizon = time }
 made p (edit.Manager m) = record p { manager = m }
+made p (edit.TimeStamps stamps) = record p { time_stamps = stamps }
 made p (edit.SyncCounter n) = record p { sync_counter = n }
 made p (edit.Eds name text) = record p { texts = insert p.texts name text }
 made p (edit.DropEds name) = record p { texts = remove p.texts name }
@@ -101,6 +102,7 @@ module _ (p new : Project) where
   taken_as (edit.Bitrate rate) h = taken (made p (edit.Bitrate rate)) new h
   taken_as (edit.Horizon time) h = taken (made p (edit.Horizon time)) new h
   taken_as (edit.Manager m) h = one_test _ _ (made p (edit.Manager m)) new h
+  taken_as (edit.TimeStamps stamps) h = one_test _ _ (made p (edit.TimeStamps stamps)) new h
   taken_as (edit.SyncCounter n) h = taken (made p (edit.SyncCounter n)) new h
   taken_as (edit.Eds name text) h = one_test _ _ (made p (edit.Eds name text)) new h
   taken_as (edit.DropEds name) h =

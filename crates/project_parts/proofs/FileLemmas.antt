@@ -258,6 +258,7 @@ module _ (p : Project) (q : Part) (file : is_filed q ≡ true) where
   file_left (edit.Bitrate rate) h = rate_left p (made p (edit.Bitrate rate)) refl refl refl refl q h file
   file_left (edit.Horizon time) h = nothing_left (made p (edit.Horizon time)) refl refl refl refl refl
   file_left (edit.Manager m) h = nothing_left (made p (edit.Manager m)) refl refl refl refl refl
+  file_left (edit.TimeStamps stamps) h = nothing_left (made p (edit.TimeStamps stamps)) refl refl refl refl refl
   file_left (edit.SyncCounter n) h = nothing_left (made p (edit.SyncCounter n)) refl refl refl refl refl
   file_left (edit.Eds name text) h =
       texts_left p (made p (edit.Eds name text)) name (Some text)
@@ -320,6 +321,7 @@ module _ (p : Project) where
   nodes_left (edit.Bitrate rate) h = refl
   nodes_left (edit.Horizon time) h = refl
   nodes_left (edit.Manager m) h = refl
+  nodes_left (edit.TimeStamps stamps) h = refl
   nodes_left (edit.SyncCounter n) h = refl
   nodes_left (edit.Eds name text) h = cc
   nodes_left (edit.DropEds name) h = cc

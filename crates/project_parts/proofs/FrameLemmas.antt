@@ -11,6 +11,7 @@ use Rattle.std.proofs.lemmas.Bool.{eq-eqb, false≢true}
 use Rattle.std.proofs.lemmas.Cmp.{nat_cmp_total}
 use Rattle.std.proofs.lemmas.Map.Lookups.{exact_unsigned}
 use Rattle.base.proofs.TableLemmas.{alike, apart, put_there}
+use Rattle.project_edits.specs.Stamps.{first_day_of, period_of}
 use Rattle.project_edits.specs.declared.edit.Edit.{Edit}
 use Rattle.project_edits.specs.declared.edit.Edit.TheVariants as edit
 use Rattle.node_parameters.specs.Params.{Texts as Params}
@@ -95,6 +96,8 @@ module _ (p : Project) where
       manager = p.manager.id;
       sync_us = p.manager.sync_us;
       sync_counter = p.sync_counter;
+      time_us = period_of p.time_stamps;
+      first_day = first_day_of p.time_stamps;
       heartbeat_ms = p.manager.heartbeat_ms;
       timeout_ms = p.manager.timeout_ms;
       start_mode = start_mode_of p.version;
@@ -117,6 +120,7 @@ module _ (p : Project) where
   roster_left (edit.Bitrate rate) h = cc
   roster_left (edit.Horizon time) h = refl
   roster_left (edit.Manager m) h = cc
+  roster_left (edit.TimeStamps stamps) h = cc
   roster_left (edit.SyncCounter n) h = cc
   roster_left (edit.Eds name text) h = refl
   roster_left (edit.DropEds name) h = refl
@@ -169,6 +173,7 @@ module _ (p : Project) where
   device_left (edit.Bitrate rate) n h = refl
   device_left (edit.Horizon time) n h = refl
   device_left (edit.Manager m) n h = refl
+  device_left (edit.TimeStamps stamps) n h = refl
   device_left (edit.SyncCounter last) n h = refl
   device_left (edit.Eds name text) n h = cc
   device_left (edit.DropEds name) n h = cc
@@ -217,6 +222,7 @@ module _ (p : Project) where
     window_left (edit.Bitrate rate) h = steps_by (edit.Bitrate rate) (λ n. refl) refl
     window_left (edit.Horizon time) h = steps_by (edit.Horizon time) (λ n. refl) refl
     window_left (edit.Manager m) h = steps_by (edit.Manager m) (λ n. refl) refl
+    window_left (edit.TimeStamps stamps) h = steps_by (edit.TimeStamps stamps) (λ n. refl) refl
     window_left (edit.SyncCounter last) h = steps_by (edit.SyncCounter last) (λ n. refl) refl
     window_left (edit.Eds name text) h = cc
     window_left (edit.DropEds name) h = cc

@@ -25,6 +25,7 @@ touch_of (edit.Version version) = Version
 touch_of (edit.Bitrate rate) = Rate
 touch_of (edit.Horizon time) = Nothing
 touch_of (edit.Manager m) = Roster
+touch_of (edit.TimeStamps stamps) = Roster
 touch_of (edit.SyncCounter n) = Roster
 touch_of (edit.Eds name text) = Sheet name
 touch_of (edit.DropEds name) = Sheet name

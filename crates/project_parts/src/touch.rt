@@ -11,7 +11,8 @@ pub enum Touch<'a> {
     Nothing,
     /// The bit rate, which DCFs say and the roster has.
     Rate,
-    /// What else the manager (CiA 302) is told: its numbers, the counter of SYNC, which nodes are mandatory.
+    /// What else the manager (CiA 302) is told: its numbers, its time stamps, the counter of SYNC, which nodes are
+    /// mandatory.
     Roster,
     /// The version, by which the plan is made and the manager starts nodes.
     Version,
@@ -39,6 +40,7 @@ pub fn touch_of(edit: &Edit) -> Touch<'_>
         Edit::Bitrate(_) => Touch::Rate,
         Edit::Horizon(_) => Touch::Nothing,
         Edit::Manager(_) => Touch::Roster,
+        Edit::TimeStamps(_) => Touch::Roster,
         Edit::SyncCounter(_) => Touch::Roster,
         Edit::Eds { name, .. } => Touch::Sheet(name.as_slice()),
         Edit::DropEds { name } => Touch::Sheet(name.as_slice()),

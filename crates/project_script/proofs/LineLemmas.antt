@@ -10,22 +10,22 @@ use Rattle.project_edits.specs.Lines.{text_of}
 use Rattle.co_project.specs.Project.{Content}
 use Rattle.project_script.specs.Script.{counter_edits, edits, event_edit, message_edits, node_edits, param_edits}
 use Rattle.project_script.specs.Script.{receive_edit, script, settings, sink_edit, source_edit, start_edits, text_edit}
-use Rattle.project_script.specs.Script.{version_edits}
+use Rattle.project_script.specs.Script.{stamps_edits, version_edits}
 
--- the settings are the version, the bit rate, the horizon, the manager and the SYNC counter
+-- the settings are the version, the bit rate, the horizon, the manager, the time stamps and the SYNC counter
 pub settings_parts : (p : Content)
     → flat_map text_of (settings p)
     ≡ flat_map text_of (version_edits p.version) ++ text_of (edit.Bitrate p.bitrate)
     ++ text_of (edit.Horizon p.horizon) ++ text_of (edit.Manager p.manager)
-    ++ flat_map text_of (counter_edits p.sync_counter)
+    ++ flat_map text_of (stamps_edits p.time_stamps) ++ flat_map text_of (counter_edits p.sync_counter)
 settings_parts p =
     parts (version_edits p.version) (edit.Bitrate p.bitrate) (edit.Horizon p.horizon) (edit.Manager p.manager)
-    (counter_edits p.sync_counter)
+    (stamps_edits p.time_stamps) (counter_edits p.sync_counter)
   where
-    parts : (v : List Edit) (b h m : Edit) (c : List Edit)
-        → flat_map text_of (v ++ (b ∷ h ∷ m ∷ []) ++ c)
-        ≡ flat_map text_of v ++ text_of b ++ text_of h ++ text_of m ++ flat_map text_of c
-    parts v b h m c = simp (flat_map-append, append_assoc) refl
+    parts : (v : List Edit) (b h m : Edit) (t c : List Edit)
+        → flat_map text_of (v ++ (b ∷ h ∷ m ∷ []) ++ t ++ c)
+        ≡ flat_map text_of v ++ text_of b ++ text_of h ++ text_of m ++ flat_map text_of t ++ flat_map text_of c
+    parts v b h m t c = simp (flat_map-append, append_assoc) refl
 
 -- a message is its own line, that of its SYNC start value, and those of its sources, sinks and receives
 pub linked_parts : (name : List ℕ) (l : Linked)

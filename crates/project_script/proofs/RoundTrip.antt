@@ -19,20 +19,21 @@ use Rattle.base.proofs.TableLemmas.{put_there, put_twice}
 use Rattle.project_edits.specs.declared.fault.EditFault.TheVariants.{InUse, Range, Unknown, Taken, Limit}
 use Rattle.project_edits.specs.declared.script_version.ScriptVersion.{ScriptVersion}
 use Rattle.project_edits.specs.declared.script_version.ScriptVersion.TheVariants.{One, Two, Three}
+use Rattle.project_edits.specs.declared.time_stamps.TimeStamps.{TimeStamps}
 use Rattle.project_edits.specs.declared.edit.Edit.{Edit}
 use Rattle.project_edits.specs.declared.edit.Edit.TheVariants as edit
 use Rattle.project_edits.specs.Accepts.{unless}
 use Rattle.project_messages.specs.Messages.{has_receives, have_receives}
-use Rattle.project_edits.specs.Versions.{is_one}
+use Rattle.project_edits.specs.Versions.{is_one, is_three}
 use Rattle.co_dict.proofs.PlaceLemmas.{places_exact, places_total}
 use Rattle.node_parameters.specs.Params.{Texts as Params, is_full_for}
 use Rattle.co_project.specs.declared.node.Node.{Node}
 use Rattle.co_project.specs.Tables.{Texts, Nodes, name_taken, has_no_room, node_after_put, with_need, with_param}
 use Rattle.co_project.specs.Project.{Content, first, accept, accept_all, with_nodes}
 use Rattle.project_script.specs.Script.{counter_edits, edits, event_edit, message_edits, need_edits, node_edits}
-use Rattle.project_script.specs.Script.{param_edit, param_edits, settings, text_edit, version_edits}
+use Rattle.project_script.specs.Script.{param_edit, param_edits, settings, stamps_edits, text_edit, version_edits}
 use Rattle.base.specs.Tables.{Each}
-use Rattle.co_project.specs.Sound.{AreTexts, AreParams, IsNodeOf, IsMessageOf, IsEventOf, IsSound}
+use Rattle.co_project.specs.Sound.{AreTexts, AreParams, AreTimeStampsOf, IsNodeOf, IsMessageOf, IsEventOf, IsSound}
 use Rattle.base.proofs.EachLemmas.{all_entries, both, each_empty, each_fails, each_found, each_put, each_there}
 use Rattle.base.proofs.EachLemmas.{each_weaker, first_part, get-put_all, made_again, none_pass, one_more, put_all}
 use Rattle.base.proofs.EachLemmas.{second_part}
@@ -343,6 +344,7 @@ set_up p = record {
   bitrate = p.bitrate;
   horizon = p.horizon;
   manager = p.manager;
+  time_stamps = p.time_stamps;
   sync_counter = p.sync_counter;
   texts = empty;
   nodes = empty;
@@ -360,7 +362,8 @@ version_again : (version : ScriptVersion)
     → accept_all (Ok first) (version_edits version) ≡ Ok (record first { version = version })
 unfolding accept_all accept
 version_again One = refl
-version_again Two = ap (λ t. accept_all (unless ((t, InUse) ∷ []) (record first { version = Two })) []) none_receives
+version_again Two = ap (λ t. accept_all (unless ((t || false, InUse) ∷ []) (record first { version = Two })) [])
+    none_receives
 version_again Three = refl
 
 -- the bit rate, the horizon and the manager
@@ -378,6 +381,14 @@ numbers_again p q none =
     (ap (λ nodes. unless ((contains_key nodes p.manager.id, Taken) ∷ []) managed) none
     ∙ ap (λ o. unless ((is_some o, Taken) ∷ []) managed) (get-empty {X = Node} nat_cmp p.manager.id)) refl))
 
+-- the time stamps
+stamps_again : (q : Content) (stamps : Option TimeStamps) → q.time_stamps ≡ None → IfSome stamps (AreTimeStampsOf q)
+    → accept_all (Ok q) (stamps_edits stamps) ≡ Ok (record q { time_stamps = stamps })
+unfolding accept_all accept
+stamps_again q None none are = ap (λ s. Ok (record q { time_stamps = s })) none
+stamps_again q (Some stamps) none are =
+    ap (λ t. accept_all (unless ((not t, Range) ∷ []) (record q { time_stamps = Some stamps })) []) are.0
+
 -- the SYNC counter
 counter_again : (q : Content) (n : ℕ) → q.sync_counter ≡ 0
     → accept_all (Ok q) (counter_edits n) ≡ Ok (record q { sync_counter = n })
@@ -390,14 +401,18 @@ counter_again q n none = by (n == 0) refl
     by false other = refl
 
 -- the settings
-settings_again : (p : Content) → accept_all (Ok first) (settings p) ≡ Ok (set_up p)
-settings_again p =
+settings_again : (p : Content) → IsSound p → accept_all (Ok first) (settings p) ≡ Ok (set_up p)
+settings_again p sound =
     let numbers : List Edit = edit.Bitrate p.bitrate ∷ edit.Horizon p.horizon ∷ edit.Manager p.manager ∷ [] in
     let versed : Content = record first { version = p.version } in
     let set : Content = record versed { bitrate = p.bitrate; horizon = p.horizon; manager = p.manager } in
-    in_turn (Ok first) (version_edits p.version ++ numbers) (counter_edits p.sync_counter) set
+    let stamped : Content = record set { time_stamps = p.time_stamps } in
+    in_turn (Ok first) (version_edits p.version ++ numbers ++ stamps_edits p.time_stamps) (counter_edits p.sync_counter)
+    stamped
+    (in_turn (Ok first) (version_edits p.version ++ numbers) (stamps_edits p.time_stamps) set
     (in_turn (Ok first) (version_edits p.version) numbers versed (version_again p.version) (numbers_again p versed refl))
-    (counter_again set p.sync_counter refl)
+    (stamps_again set p.time_stamps refl sound.time_stamps))
+    (counter_again stamped p.sync_counter refl)
 
 -- all texts
 all_texts : (p : Content) → IsSound p → accept_all (Ok (set_up p)) (map text_edit (entries p.texts))
@@ -427,7 +442,7 @@ script_again p sound =
     ≡ Some node) p.nodes (each_there p.nodes) in
     let each_event : All (λ e. IsEventOf p e.0 e.1)
     (entries p.events) = all_entries nat_cmp_total exact_unsigned (IsEventOf p) p.events sound.events in
-    let text_made = in_turn (Ok first) (settings p) (map text_edit (entries p.texts)) (set_up p) (settings_again p)
+    let text_made = in_turn (Ok first) (settings p) (map text_edit (entries p.texts)) (set_up p) (settings_again p sound)
     (all_texts p sound) in
     let nodes_made = in_turn (Ok first) _ nodes (with_nodes_alone p empty) text_made (nodes_again p empty (entries p.nodes)
     (each_empty (IsBare p) empty refl) there each_node) in

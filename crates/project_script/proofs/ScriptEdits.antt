@@ -2,7 +2,7 @@
 use Rattle.std.proofs.Common.{◌≡◌, ℕ, Bool, true, false, List, [], ◌∷◌, ◌++◌, map}
 use Rattle.std.proofs.lemmas.List.Elements.{All-nil, All-cons, All-from_recursion, All-head, All-tail, All-append}
 use Rattle.std.proofs.lemmas.List.Elements.{All-map, All-weaker}
-use Rattle.std.specs.Prelude.{All, ◌==◌, if◌then◌else◌}
+use Rattle.std.specs.Prelude.{All, ◌==◌, if◌then◌else◌, Option, Some, None, IfSome}
 use Rattle.std.specs.FinMap.{entries}
 use Rattle.std.specs.List.{flat_map}
 use Rattle.std.proofs.lemmas.Cmp.{nat_cmp_total, nat_list_cmp_total}
@@ -11,6 +11,7 @@ use Rattle.co_dict.proofs.PlaceLemmas.{places_exact, places_total}
 use Rattle.co_scenario.specs.declared.timed_event.TimedEvent.{TimedEvent}
 use Rattle.project_messages.specs.declared.linked.Linked.{Linked}
 use Rattle.project_messages.specs.Messages.{is_start, AreReceives, AreSinks, AreSources, IsLinked, IsReceive, IsSink}
+use Rattle.project_edits.specs.declared.time_stamps.TimeStamps.{TimeStamps}
 use Rattle.project_edits.specs.declared.edit.Edit.{Edit}
 use Rattle.project_edits.specs.declared.edit.Edit.TheVariants as edit
 use Rattle.project_edits.specs.Eds.{IsEds}
@@ -23,8 +24,8 @@ use Rattle.co_project.specs.declared.node.Node.{Node}
 use Rattle.co_project.specs.Project.{Content}
 use Rattle.project_script.specs.Script.{counter_edits, edits, event_edit, message_edits, need_edits, node_edits}
 use Rattle.project_script.specs.Script.{param_edit, param_edits, receive_edit, settings, sink_edit, source_edit, start_edits}
-use Rattle.project_script.specs.Script.{text_edit, version_edits}
-use Rattle.co_project.specs.Sound.{AreTexts, AreParams, IsNodeOf, IsMessageOf, IsEventOf, IsSound}
+use Rattle.project_script.specs.Script.{stamps_edits, text_edit, version_edits}
+use Rattle.co_project.specs.Sound.{AreTexts, AreParams, AreTimeStampsOf, IsNodeOf, IsMessageOf, IsEventOf, IsSound}
 use Rattle.base.proofs.EachLemmas.{all_entries}
 
 module _ {X Y : Type 0} (P : Y → Type 0) (f : X → List Y) where
@@ -102,6 +103,13 @@ the_version_edits One = All-nil IsEdit
 the_version_edits Two = All-cons IsEdit (edit.Version Two) [] tt (All-nil IsEdit)
 the_version_edits Three = All-cons IsEdit (edit.Version Three) [] tt (All-nil IsEdit)
 
+-- that of the time stamps
+the_stamps_edits : (p : Content) (stamps : Option TimeStamps) → IfSome stamps (AreTimeStampsOf p)
+    → All IsEdit (stamps_edits stamps)
+unfolding IsEdit
+the_stamps_edits p None are = All-nil IsEdit
+the_stamps_edits p (Some stamps) are = All-cons IsEdit (edit.TimeStamps (Some stamps)) [] are.1 (All-nil IsEdit)
+
 -- that of the SYNC counter
 the_counter_edits : (n : ℕ) → is_sync_counter n ≡ true → All IsEdit (counter_edits n)
 unfolding IsEdit
@@ -112,9 +120,11 @@ the_settings_edits : (p : Content) → IsSound p → All IsEdit (settings p)
 unfolding IsEdit
 the_settings_edits p sound =
     let numbers : List Edit = edit.Bitrate p.bitrate ∷ edit.Horizon p.horizon ∷ edit.Manager p.manager ∷ [] in
-    All-append IsEdit (version_edits p.version ++ numbers) (counter_edits p.sync_counter)
+    All-append IsEdit (version_edits p.version ++ numbers ++ stamps_edits p.time_stamps) (counter_edits p.sync_counter)
+    (All-append IsEdit (version_edits p.version ++ numbers) (stamps_edits p.time_stamps)
     (All-append IsEdit (version_edits p.version) numbers (the_version_edits p.version)
     (All-from_recursion IsEdit numbers (sound.bitrate, (sound.horizon, (sound.manager, tt)))))
+    (the_stamps_edits p p.time_stamps sound.time_stamps))
     (the_counter_edits p.sync_counter sound.counter)
 
 -- the edits of a project's script are edits

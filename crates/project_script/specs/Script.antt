@@ -1,10 +1,11 @@
 -- The script of a project: the edits that make it (this profile's own).
-use Rattle.std.specs.Prelude.{ℕ, Bool, ◌==◌, List, [], ◌∷◌, ◌++◌, map, if◌then◌else◌, true}
+use Rattle.std.specs.Prelude.{ℕ, Bool, ◌==◌, List, [], ◌∷◌, ◌++◌, map, if◌then◌else◌, true, Option, Some, None}
 use Rattle.std.specs.List.{flat_map}
 use Rattle.std.specs.FinMap.{entries}
 use Rattle.co_scenario.specs.declared.timed_event.TimedEvent.{TimedEvent}
 use Rattle.project_edits.specs.declared.script_version.ScriptVersion.{ScriptVersion}
 use Rattle.project_edits.specs.declared.script_version.ScriptVersion.TheVariants.{One, Two, Three}
+use Rattle.project_edits.specs.declared.time_stamps.TimeStamps.{TimeStamps}
 use Rattle.project_edits.specs.declared.edit.Edit.{Edit}
 use Rattle.project_edits.specs.declared.edit.Edit.TheVariants as edit
 use Rattle.project_messages.specs.declared.linked.Linked.{Linked}
@@ -19,15 +20,21 @@ version_edits One = []
 version_edits Two = edit.Version Two ∷ []
 version_edits Three = edit.Version Three ∷ []
 
+-- the time stamps, where there are some
+abbrev pub stamps_edits : Option TimeStamps → List Edit
+stamps_edits None = []
+stamps_edits (Some stamps) = edit.TimeStamps (Some stamps) ∷ []
+
 -- the last number of the SYNC counter, where there is one
 abbrev pub counter_edits : ℕ → List Edit
 counter_edits n = if n == 0 then [] else edit.SyncCounter n ∷ []
 
--- the settings of a project: its version, its bit rate, its horizon, its manager, and its SYNC counter
+-- the settings of a project: its version, its bit rate, its horizon, its manager with its time stamps, and its SYNC
+-- counter
 abbrev pub settings : Content → List Edit
 settings p =
     version_edits p.version ++ (edit.Bitrate p.bitrate ∷ edit.Horizon p.horizon ∷ edit.Manager p.manager ∷ [])
-    ++ counter_edits p.sync_counter
+    ++ stamps_edits p.time_stamps ++ counter_edits p.sync_counter
 
 abbrev pub text_edit : List ℕ × List ℕ → Edit
 text_edit e = edit.Eds e.0 e.1

@@ -7,14 +7,14 @@ ghost use Rattle.project_messages.specs.Messages.{IsLinked};
 ghost use Rattle.co_project.specs.Sound.{IsSound};
 ghost use Rattle.project_script.specs.Script.{counter_edits, event_edit, message_edits, need_edits, node_edits};
 ghost use Rattle.project_script.specs.Script.{param_edit, param_edits, receive_edit, script, settings, sink_edit, source_edit};
-ghost use Rattle.project_script.specs.Script.{start_edits, text_edit, version_edits};
+ghost use Rattle.project_script.specs.Script.{stamps_edits, start_edits, text_edit, version_edits};
 
 use co_project::{Node, Params, Project};
 use co_scenario::Script;
 use project_edits::{
-    ScriptVersion, write_bitrate, write_eds, write_event, write_horizon, write_manager,
+    ScriptVersion, TimeStamps, write_bitrate, write_eds, write_event, write_horizon, write_manager,
     write_message, write_need, write_node, write_param, write_receive, write_sink, write_source,
-    write_start, write_sync_counter, write_version,
+    write_start, write_sync_counter, write_time_stamps, write_version,
 };
 use project_messages::{Linked, Messages, Receives, Sinks, Sources};
 use std::alloc::{AllocError, Global};
@@ -33,6 +33,20 @@ fn write_version_set(
     }
 }
 
+/// Writes the command of the time stamps, where there are some.
+fn write_stamps_set(
+    out: &mut Vec<u8>,
+    alloc: Global,
+    stamps: Option<TimeStamps>,
+) -> Result<(), AllocError>
+    ensures { OnOk result (out.new.items ≡ out.old.items ++ flat_map text_of (stamps_edits stamps)) }
+{
+    match stamps {
+        None => Ok(()),
+        Some(stamps) => write_time_stamps(out, alloc, stamps),
+    }
+}
+
 /// Writes the command of the SYNC counter, where there is one.
 fn write_counter_set(out: &mut Vec<u8>, alloc: Global, last: u8) -> Result<(), AllocError>
     ensures { OnOk result (out.new.items ≡ out.old.items ++ flat_map text_of (counter_edits last)) }
@@ -43,8 +57,8 @@ fn write_counter_set(out: &mut Vec<u8>, alloc: Global, last: u8) -> Result<(), A
     write_sync_counter(out, alloc, last)
 }
 
-/// Writes the commands that make the settings: the version, the bit rate, the horizon, the manager and
-/// the SYNC counter.
+/// Writes the commands that make the settings: the version, the bit rate, the horizon, the manager with its
+/// time stamps, and the SYNC counter.
 #[tactic(auto, using(crate::proofs::LineLemmas::settings_parts))]
 fn write_settings(out: &mut Vec<u8>, alloc: Global, project: &Project) -> Result<(), AllocError>
     ensures { OnOk result (out.new.items ≡ out.old.items ++ flat_map text_of (settings project.now)) }
@@ -53,6 +67,7 @@ fn write_settings(out: &mut Vec<u8>, alloc: Global, project: &Project) -> Result
     write_bitrate(out, alloc, project.bitrate())?;
     write_horizon(out, alloc, project.horizon())?;
     write_manager(out, alloc, project.manager())?;
+    write_stamps_set(out, alloc, project.time_stamps())?;
     write_counter_set(out, alloc, project.sync_counter())
 }
 

@@ -1,6 +1,6 @@
 -- What is read behind the first word of each command.
 use Rattle.std.proofs.Common.{◌≡◌, ℕ, ◌^◌, ◌<◌, ◌≤◌, Bool, true, false, List, [], ◌∷◌, refl, lit<, arith}
-use Rattle.std.specs.Prelude.{nat_le, if◌then◌else◌, Ok, Some, decimal, codes}
+use Rattle.std.specs.Prelude.{nat_le, if◌then◌else◌, Ok, Option, Some, None, IfSome, decimal, codes, ◌==◌}
 use Rattle.std.proofs.lemmas.Bool.{and_parts, leb-true, le-ltb}
 use Rattle.std.proofs.lemmas.Bool.Decides.{nat_tests}
 use Rattle.co_scenario.specs.declared.event.Event.TheVariants as event
@@ -9,12 +9,14 @@ use Rattle.co_scenario.specs.declared.nmt_command.NmtCommand.TheVariants.{Start,
 use Rattle.co_scenario.specs.declared.nmt_command.NmtCommand.TheVariants.{ResetCommunication}
 use Rattle.co_scenario.specs.Commands.{number_of}
 use Rattle.project_edits.specs.declared.manager_settings.ManagerSettings.{ManagerSettings}
+use Rattle.project_edits.specs.declared.time_stamps.TimeStamps.{TimeStamps}
+use Rattle.project_edits.specs.Stamps.{first_day_of, period_of}
 use Rattle.project_edits.specs.declared.edit.Edit.TheVariants as edit
 use Rattle.script_commands.specs.declared.request.Request.TheVariants.{Block}
 use Rattle.base.specs.Words.{after}
 use Rattle.base.specs.Digits.{byte_digits, index_digits}
 use Rattle.base.specs.Ranges.{is_between, AreIndices}
-use Rattle.project_edits.specs.Forms.{is_name, is_node_or_all, is_bit_rate, is_time, is_sync_period}
+use Rattle.project_edits.specs.Forms.{is_name, is_node_or_all, is_bit_rate, is_time, is_period}
 use Rattle.cia301.specs.Limits.{is_node_number}
 use Rattle.project_edits.specs.Forms.{is_event_number, is_sync_counter}
 use Rattle.project_edits.specs.declared.script_version.ScriptVersion.{ScriptVersion}
@@ -23,8 +25,8 @@ use Rattle.project_edits.specs.Versions.{number_of as version_number, version_of
 use Rattle.script_commands.specs.Requests.{block_of, bitrate_of, horizon_of, manager_of, drop_eds_of, node_of, drop_node_of}
 use Rattle.script_commands.specs.Requests.{id_of, param_of, unparam_of, event_at_time, set_of, switch, power_of, nmt}
 use Rattle.script_commands.specs.Requests.{nmt_of, happening_of, event_of, drop_event_of}
-use Rattle.script_commands.specs.Requests.{version_of, sync_counter_of, is_mandatory, need_of}
-use Rattle.project_edits.specs.Edits.{IsManager, IsSetting}
+use Rattle.script_commands.specs.Requests.{version_of, time_period_of, sync_counter_of, is_mandatory, need_of}
+use Rattle.project_edits.specs.Edits.{AreTimeStamps, IsManager, IsSetting}
 use Rattle.project_edits.specs.Lines.{need_word}
 use Rattle.script_commands.proofs.NumberLemmas.{decimal_again, index_again, sub_again}
 use Rattle.script_commands.proofs.LineLemmas.{Has, Ends, Keeps}
@@ -47,7 +49,7 @@ rate_below n fits = let few : n ≤ 1000 = grind (arith, nat_tests) in omega ari
 pub time_below : (n : ℕ) → is_time n ≡ true → n < 10 ^ 10
 time_below n fits = omega (arith, most 0 10000000 n fits)
 
-pub period_below : (n : ℕ) → is_sync_period n ≡ true → n < 10 ^ 10
+pub period_below : (n : ℕ) → is_period n ≡ true → n < 10 ^ 10
 period_below n fits = let few : n ≤ 10000000 = grind (arith, nat_tests) in omega arith
 
 pub key_below : (n : ℕ) → is_event_number n ≡ true → n < 10 ^ 10
@@ -62,6 +64,16 @@ command_below Stop = lit< tt
 command_below EnterPreOperational = lit< tt
 command_below ResetNode = lit< tt
 command_below ResetCommunication = lit< tt
+
+pub stamps_below : (stamps : Option TimeStamps) → IfSome stamps AreTimeStamps → period_of stamps < 10 ^ 10
+unfolding AreTimeStamps
+stamps_below None is = lit< tt
+stamps_below (Some t) is = omega (arith, most 1000 10000000 t.period_us is.0)
+
+pub day_below : (stamps : Option TimeStamps) → IfSome stamps AreTimeStamps → first_day_of stamps < 10 ^ 10
+unfolding AreTimeStamps
+day_below None is = lit< tt
+day_below (Some t) is = short_below 0 t.first_day is.1
 
 pub counter_below : (n : ℕ) → is_sync_counter n ≡ true → n < 10 ^ 10
 counter_below n fits = let few : n ≤ 240 = grind (arith, nat_tests) in omega arith
@@ -118,6 +130,26 @@ manager_is line m h is =
       decimal_again m.timeout_ms (short_below 1 m.timeout_ms is.3),
     ) (
     rw (is.0, is.1, is.2, is.3) refl))
+
+-- a period that is none of 0
+some_period : (n : ℕ) → is_between 1000 10000000 n ≡ true → (n == 0) ≡ false
+some_period n fits =
+    let least = leb-true 1000 n (and_parts (nat_le 1000 n) (nat_le n 10000000) fits).0 in
+    grind (arith, nat_tests)
+
+pub time_period_is : (line : List ℕ) (stamps : Option TimeStamps)
+    → Has Ends line (decimal (period_of stamps) ∷ decimal (first_day_of stamps) ∷ []) → IfSome stamps AreTimeStamps
+    → time_period_of line ≡ Ok (edit.TimeStamps stamps)
+unfolding time_period_of AreTimeStamps
+time_period_is line None h is = rw (h.1.1, h.0, h.1.0, decimal_again 0 (lit< tt)) refl
+time_period_is line (Some t) h is =
+    rw (
+      h.1.1,
+      h.0,
+      h.1.0,
+      decimal_again t.period_us (stamps_below (Some t) is),
+      decimal_again t.first_day (day_below (Some t) is),
+    ) (rw (some_period t.period_us is.0, is.0, is.1) refl)
 
 pub sync_counter_is : (line : List ℕ) (n : ℕ) → Has Ends line (decimal n ∷ []) → is_sync_counter n ≡ true
     → sync_counter_of line ≡ Ok (edit.SyncCounter n)

@@ -1,11 +1,13 @@
 -- The printed line of each edit, read as what it asks.
 use Rattle.std.proofs.Common.{◌≡◌, ℕ, ◌≤◌, Bool, true, false, List, [], ◌∷◌, ◌++◌, refl, ap, ◌∙◌, lit≤, arith}
-use Rattle.std.specs.Prelude.{if◌then◌else◌, Ok, codes, decimal}
+use Rattle.std.specs.Prelude.{if◌then◌else◌, Ok, Option, IfSome, codes, decimal}
 use Rattle.co_scenario.specs.declared.event.Event.{Event}
 use Rattle.co_scenario.specs.declared.event.Event.TheVariants as event
 use Rattle.co_scenario.specs.Commands.{number_of}
 use Rattle.project_edits.specs.declared.manager_settings.ManagerSettings.{ManagerSettings}
 use Rattle.project_edits.specs.declared.script_version.ScriptVersion.{ScriptVersion}
+use Rattle.project_edits.specs.declared.time_stamps.TimeStamps.{TimeStamps}
+use Rattle.project_edits.specs.Stamps.{first_day_of, period_of}
 use Rattle.project_edits.specs.declared.edit.Edit.{Edit}
 use Rattle.project_edits.specs.declared.edit.Edit.TheVariants as edit
 use Rattle.script_commands.specs.declared.request.Request.TheVariants.{Edit as EditAsked}
@@ -14,7 +16,7 @@ use Rattle.base.specs.Lines.{line_count}
 use Rattle.project_edits.specs.Eds.{IsEds}
 use Rattle.project_edits.specs.Forms.{is_event_number, is_time}
 use Rattle.script_commands.specs.Requests.{command_of, edit_request, event_at_time, happening_of}
-use Rattle.project_edits.specs.Edits.{IsEdit, IsManager, IsSetting, IsEvent}
+use Rattle.project_edits.specs.Edits.{AreTimeStamps, IsEdit, IsManager, IsSetting, IsEvent}
 use Rattle.project_edits.specs.Versions.{number_of as version_number}
 use Rattle.project_edits.specs.Lines.{event_words, need_word, words_of, line_of}
 use Rattle.script_commands.specs.Asked.{asks}
@@ -26,7 +28,7 @@ use Rattle.script_commands.proofs.CommandLemmas.{key_below, short_below, command
 use Rattle.script_commands.proofs.CommandLemmas.{manager_is, drop_eds_is, node_is, drop_node_is, param_is, unparam_is}
 use Rattle.script_commands.proofs.CommandLemmas.{drop_event_is, event_is, set_is, power_is, nmt_is}
 use Rattle.script_commands.proofs.CommandLemmas.{counter_below, need_is, sync_counter_is, version_below}
-use Rattle.script_commands.proofs.CommandLemmas.{version_is}
+use Rattle.script_commands.proofs.CommandLemmas.{day_below, stamps_below, time_period_is, version_is}
 use Rattle.script_commands.proofs.LinkLemmas.{read_message, read_drop_message, read_source, read_unsource, read_sink}
 use Rattle.script_commands.proofs.LinkLemmas.{read_receive, read_start, read_unreceive, read_unsink}
 use Rattle.script_commands.proofs.BlockLemmas.{lines_counted}
@@ -91,6 +93,14 @@ read_manager m is =
     (more (number_word m.sync_us (period_below m.sync_us is.1)) times) in
     command (codes "manager") refl (lit≤ tt) line refl (ap edit_request (manager_is _ m line.has is))
 
+read_stamps : (stamps : Option TimeStamps) → IfSome stamps AreTimeStamps
+    → IsRead (line_of (edit.TimeStamps stamps)) (Ok (EditAsked (edit.TimeStamps stamps)))
+unfolding line_of words_of command_of
+read_stamps stamps is =
+    let line = more (number_word (period_of stamps) (stamps_below stamps is))
+    (last (number_word (first_day_of stamps) (day_below stamps is))) in
+    command (codes "time-period") refl (lit≤ tt) line refl (ap edit_request (time_period_is _ stamps line.has is))
+
 read_eds : (name text : List ℕ) → IsEds name text → IsRead (line_of (edit.Eds name text)) (Ok (asks (edit.Eds name text)))
 unfolding line_of words_of
 read_eds name text is =
@@ -116,6 +126,7 @@ read_again (edit.Horizon time) fits =
     let line = last (number_word time (time_below time fits)) in
     command (codes "horizon") refl (lit≤ tt) line refl (ap edit_request (horizon_is _ time line.has fits))
 read_again (edit.Manager m) is = read_manager m is
+read_again (edit.TimeStamps stamps) are = read_stamps stamps are
 read_again (edit.SyncCounter n) fits =
     let line = last (number_word n (counter_below n fits)) in
     command (codes "sync-counter") refl (lit≤ tt) line refl (ap edit_request (sync_counter_is _ n line.has fits))

@@ -20,7 +20,8 @@ use Rattle.project_edits.specs.Eds.{most_lines}
 use Rattle.base.specs.Ranges.{is_between}
 use Rattle.project_edits.specs.Forms.{is_name, number_within, is_node_or_all, is_own_index, is_bit_rate, is_time}
 use Rattle.cia301.specs.Limits.{is_node_number}
-use Rattle.project_edits.specs.Forms.{is_sync_counter, is_sync_period, is_event_number}
+use Rattle.project_edits.specs.Forms.{is_sync_counter, is_period, is_event_number}
+use Rattle.project_edits.specs.Stamps.{stamps_of}
 use Rattle.project_edits.specs.Versions.{version_of as version_by_number}
 use Rattle.base.specs.Steps.{◌>>=◌}
 use Rattle.script_commands.specs.Links.{message_of, start_of, drop_message_of, source_of, unsource_of, sink_of, unsink_of}
@@ -104,10 +105,20 @@ manager_of rest = do
   heartbeat ← decimal (word (after (after rest)))
   timeout ← decimal last
   id ← number_within is_node_number number
-  sync ← number_within is_sync_period period
+  sync ← number_within is_period period
   producer ← number_within (is_between 0 65535) heartbeat
   wait ← number_within (is_between 1 65535) timeout
   Ok (edit.Manager (record { id = id; sync_us = sync; heartbeat_ms = producer; timeout_ms = wait }))
+
+-- `US DAYS`
+unfoldable pub time_period_of : List ℕ → Result Edit EditFault
+time_period_of rest = do
+  last ← last_word (after rest)
+  number ← decimal (word rest)
+  days ← decimal last
+  period ← number_within is_period number
+  first_day ← number_within (is_between 0 65535) days
+  Ok (edit.TimeStamps (stamps_of period first_day))
 
 -- `N`
 unfoldable pub sync_counter_of : List ℕ → Result Edit EditFault
@@ -281,6 +292,7 @@ command_of first rest =
     else if bytes_eq first (codes "bitrate") then edit_request (bitrate_of rest)
     else if bytes_eq first (codes "horizon") then edit_request (horizon_of rest)
     else if bytes_eq first (codes "manager") then edit_request (manager_of rest)
+    else if bytes_eq first (codes "time-period") then edit_request (time_period_of rest)
     else if bytes_eq first (codes "sync-counter") then edit_request (sync_counter_of rest)
     else if bytes_eq first (codes "drop-eds") then edit_request (drop_eds_of rest)
     else if bytes_eq first (codes "node") then edit_request (node_of rest)

@@ -4,16 +4,16 @@ ghost use Rattle.base.specs.Gives.{Gives};
 ghost use Rattle.project_edits.specs.Faults.{is_memory};
 ghost use Rattle.cia301.specs.Limits.{is_node_number};
 ghost use Rattle.script_commands.specs.Requests.{id_of, version_of, bitrate_of, horizon_of, manager_of, sync_counter_of};
-ghost use Rattle.script_commands.specs.Requests.{drop_eds_of, node_of, is_mandatory, need_of, drop_node_of, param_of, unparam_of};
+ghost use Rattle.script_commands.specs.Requests.{time_period_of, drop_eds_of, node_of, is_mandatory, need_of, drop_node_of, param_of, unparam_of};
 
 use crate::numbers::{decimal, index, sub_index};
 use crate::words::{last_word, name, text};
 use base::{Octets, next_word};
 use project_edits::limits::{
-    bit_rate, node_number, number_within, own_index, script_version, sync_counter as last_count,
-    sync_period, time,
+    bit_rate, node_number, number_within, own_index, period, script_version, short,
+    sync_counter as last_count, time,
 };
-use project_edits::{Command, Edit, EditFault, ManagerSettings};
+use project_edits::{Command, Edit, EditFault, ManagerSettings, TimeStamps};
 use std::alloc::Global;
 
 /// The number of a node, which is the only word.
@@ -70,7 +70,7 @@ pub(crate) fn manager(rest: &[u8]) -> Result<Command, EditFault>
     let heartbeat = decimal(heartbeat)?;
     let timeout = decimal(timeout)?;
     let id = node_number(id)?;
-    let sync = sync_period(sync)?;
+    let sync = period(sync)?;
     let heartbeat = number_within(heartbeat, 0, 65_535)?;
     let timeout = number_within(timeout, 1, 65_535)?;
     Ok(Command::new(Edit::Manager(ManagerSettings {
@@ -79,6 +79,21 @@ pub(crate) fn manager(rest: &[u8]) -> Result<Command, EditFault>
         heartbeat_ms: heartbeat as u16,
         timeout_ms: timeout as u16,
     })))
+}
+
+/// `time-period US DAYS`
+#[tactic(auto, unfolding(crate::specs::Requests::time_period_of, project_edits::specs::Edits::IsEdit, project_edits::specs::Edits::AreTimeStamps))]
+pub(crate) fn time_period(rest: &[u8]) -> Result<Command, EditFault>
+    ensures { Gives is_memory (λ c. c) result (time_period_of rest.now) }
+{
+    let (between, rest) = next_word(rest);
+    let day = last_word(rest)?;
+    let between = decimal(between)?;
+    let day = decimal(day)?;
+    let period_us = period(between)?;
+    let first_day = short(day)?;
+    let stamps = TimeStamps::new(period_us, first_day);
+    Ok(Command::new(Edit::TimeStamps(stamps)))
 }
 
 /// `sync-counter N`

@@ -6,8 +6,8 @@ ghost use Rattle.project_edits.specs.Faults.{is_memory};
 ghost use Rattle.script_commands.specs.Requests.{block_of, command_of, edit_request, query_request, link_of, request};
 
 use crate::edits::{
-    bitrate, drop_eds, drop_node, horizon, manager, need, node, param, sync_counter, unparam,
-    version,
+    bitrate, drop_eds, drop_node, horizon, manager, need, node, param, sync_counter, time_period,
+    unparam, version,
 };
 use crate::events::{drop_event, event};
 use crate::links::{
@@ -125,6 +125,8 @@ fn rarer_command(alloc: Global, first: &[u8], rest: &[u8]) -> Result<Request, Ed
         edit(horizon(rest))
     } else if first == b"manager".as_slice() {
         edit(manager(rest))
+    } else if first == b"time-period".as_slice() {
+        edit(time_period(rest))
     } else if first == b"sync-counter".as_slice() {
         edit(sync_counter(rest))
     } else if first == b"drop-eds".as_slice() {
