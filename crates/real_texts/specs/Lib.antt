@@ -1,0 +1,3 @@
+pub mod Naturals
+pub mod Reals
+pub mod Texts
