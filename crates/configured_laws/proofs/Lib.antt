@@ -1,0 +1,2 @@
+pub mod AfterLemmas
+pub mod SendingLemmas
