@@ -1,12 +1,13 @@
 """The image of a project, one instant of the bus, and the trace of a run: docs/rules/bus.md.
 
-In version 3 a node may have the manager's number, the controller: it holds its configuration from power-on and has no 1017h:00,
-since the manager's heartbeat is its own; where the identifiers are equal its frames go before the manager's; its power isn't
-switched. What the manager sends is delivered to it as to each other node."""
+In version 3 a node may have the manager's number, the controller: it holds its configuration from power-on and has no
+1017h:00, since the manager's heartbeat is its own; where the identifiers are equal its frames go before the manager's;
+its power isn't switched. What the manager sends is delivered to it as to each other node."""
 from dataclasses import dataclass
-from typing import Tuple
+from typing import NamedTuple, Tuple
 
 from . import frames
+from .concise_dcf import data_of
 from .devices import PRODUCER_TIME, Device
 from .manager import Manager
 from .messages import plan_of
@@ -48,44 +49,46 @@ class Roster:
         return tuple(node for node in self.nodes if node != self.manager)
 
 
-@dataclass(frozen=True)
-class Step:
-    """An event as the run has it: one that sets has the place and the bytes, one of power whether it is on, one of NMT its
-    service."""
+class Step(NamedTuple):
+    """An event as the run has it. content: of one that sets the place and the bytes, else what is switched or
+    commanded."""
     time: int
-    kind: str
+    kind: bytes
     node: int
     content: Tuple
 
 
 class Image:
-    """What a run reads of a project."""
+    """What a run reads of a project. parts: the roster; of each node its default values, its shape, what is expected of
+    it, and each of its writes; of each window that has some its steps."""
 
     def __init__(self, project):
-        self.roster = Roster.of(project)
-        self.shapes, self.defaults, self.identities, self.writes = {}, {}, {}, {}
-        plan = plan_of(project)
+        self.roster, plan = Roster.of(project), plan_of(project)
+        self.parts = {("Roster",): self.roster}
         for node in self.roster.nodes:
             sheet, writes = project.sheet(node), node_writes(project, plan, node)
             shape, defaults = sheet.shape(node), sheet.defaults(node)
             if node == self.roster.controller():
                 shape = Shape(without_producer_time(shape.entries), shape.dummies)
-                defaults = without_producer_time({**defaults, **{write.place: write.data for write in writes}})
-            self.shapes[node], self.defaults[node], self.identities[node], self.writes[node] = shape, defaults, sheet.identity(node), writes
-        self.steps = [step for _, event in project.events_in_order() for step in [self.step_of(event)] if step]
+                defaults = without_producer_time({**defaults, **data_of(writes)})
+            self.parts["Shape", node], self.parts["Defaults", node] = shape, defaults
+            self.parts["Expect", node] = sheet.identity(node)
+            self.parts.update((("Boot", node, number), write) for number, write in enumerate(writes))
+        events = [event for _, event in sorted(project.events.items())]
+        self.steps = list(filter(None, map(self.step_of, sorted(events, key=lambda event: event.time))))
+        for step in self.steps:
+            self.parts.setdefault(("Events", step.time // WINDOW), []).append(step)
 
     def step_of(self, event):
         """None of an event that sets what isn't there or isn't modelled, or to a text that spells no value."""
-        if event.kind == "power":
-            return Step(event.time, event.kind, event.node, (event.is_on,))
-        if event.kind == "nmt":
-            return Step(event.time, event.kind, event.node, (event.service,))
-        entry = self.shapes[event.node].entry(*event.place)
-        data = None if entry is None else value(entry.type, event.text, event.node)
-        return None if data is None else Step(event.time, event.kind, event.node, (event.place, data))
-
-    def write_of_node(self, node, number):
-        return self.writes[node][number] if number < len(self.writes[node]) else None
+        if event.kind == b"power":
+            return Step(event.time, event.kind, event.node(), (event.words[1] == b"on",))
+        if event.kind == b"nmt":
+            return Step(event.time, event.kind, event.node(), event.words[:1])
+        node, index, sub, text = event.words
+        entry = self.parts["Shape", node].entry(index, sub)
+        data = None if entry is None else value(entry.type, text, node)
+        return None if data is None else Step(event.time, event.kind, node, ((index, sub), data))
 
 
 def without_producer_time(table):
@@ -100,7 +103,8 @@ class Bus:
         self.roster, self.steps = image.roster, list(image.steps)
         self.slot = None                               # the end of the slot, the sender and its frame
         self.manager = Manager(image, asks)
-        self.devices = {node: Device(node, image.shapes[node], image.defaults[node], asks) for node in self.roster.nodes}
+        self.devices = {node: Device(node, image.parts["Shape", node], image.parts["Defaults", node], asks)
+                        for node in self.roster.nodes}
         for device in self.devices.values():
             device.power(True, 0)
         self.lists = {(node, False): device.waiting for node, device in self.devices.items()}
@@ -123,12 +127,15 @@ class Bus:
             self.manager.take(frame, now)
         self.manager.run_timers(now)
         self.start_slot(now)
-        return ([] if frame is None else [frames.frame_line(now, frame)]) + self.note_lines(now)
+        lines = [] if frame is None else [frames.frame_line(now, frame)]
+        lines += [b"%010d note %d %s" % (now, node, text) for node, text in self.manager.notes]
+        self.manager.notes.clear()
+        return lines
 
     def act(self, step, now):
-        if step.kind == "nmt":
+        if step.kind == b"nmt":
             self.manager.command(*step.content, step.node)
-        elif step.kind == "set":
+        elif step.kind == b"set":
             self.devices[step.node].set(*step.content, now)
         elif step.node != self.roster.controller():
             self.devices[step.node].power(*step.content, now)
@@ -141,11 +148,6 @@ class Bus:
         self.slot = None
         return sender, frame
 
-    def note_lines(self, now):
-        lines = [b"%010d note %d %s" % (now, node, text) for node, text in self.manager.notes]
-        self.manager.notes.clear()
-        return lines
-
     def start_slot(self, now):
         """Where the wire is idle and a frame waits."""
         found = frames.winner(self.lists) if self.slot is None else None
@@ -156,8 +158,9 @@ class Bus:
 
     def next_due(self, now):
         """The least due moment after now, or None."""
-        moments = self.manager.moments(now) + [moment for device in self.devices.values() for moment in device.moments()]
-        moments += ([self.slot[0]] if self.slot else []) + [step.time for step in self.steps[:1]]
+        moments = [step.time for step in self.steps[:1]] + [self.slot[0] if self.slot else None]
+        for node in (self.manager, *self.devices.values()):
+            moments += node.moments(now)
         return min((moment for moment in moments if moment is not None and moment > now), default=None)
 
 

@@ -5,13 +5,11 @@ from typing import Callable, Dict, List, NamedTuple, Optional, Tuple
 from .entries import DataSheet
 from .faults import RANGE, SYNTAX, TRUNCATED, refuse_unless
 from .ini_text import LONGEST_LINE
-from .project import Event
-from .write_check import is_of_pdos
+from .write_check import OBJECTS_OF_PDOS
 
 MOST_LINES = 65_536
 BLANK_RUN = re.compile(rb"[ \t]+")
 NAME, DECIMAL, REST = re.compile(rb"[A-Za-z0-9_]{1,32}"), re.compile(rb"[0-9]{1,10}"), re.compile(rb".{1,4000}", re.S)
-INDEX_DIGITS, SUB_DIGITS, COB_DIGITS = (re.compile(rb"[0-9A-Fa-f]{1,%d}" % digits) for digits in (4, 2, 3))
 
 
 class Command(NamedTuple):
@@ -36,25 +34,25 @@ def number_of(*allowed):
 
 
 def hexadecimal(digits, is_allowed=lambda value: True):
-    return Form(digits, lambda text: int(text, 16), is_allowed)
+    return Form(re.compile(rb"[0-9A-Fa-f]{1,%d}" % digits), lambda text: int(text, 16), is_allowed)
 
 
 def one_of(*words):
     return Form(re.compile(b"|".join(words)), lambda text: text)
 
 
-ID, NAMED, POSITION, WORD, K, TIME = (number(1, 127), Form(NAME, bytes), number(1, 64), number(0, 65_535), number(1, 10_000),
-                                      number(0, 10_000_000))
-INDEX, SUB, COB_ID = hexadecimal(INDEX_DIGITS), hexadecimal(SUB_DIGITS), hexadecimal(COB_DIGITS, lambda value: value <= 0x7FF)
-OWN_INDEX = hexadecimal(INDEX_DIGITS, lambda value: not is_of_pdos(value))
-TEXT = Form(REST, bytes)
+ID, POSITION, WORD, K, TIME = number(1, 127), number(1, 64), number(0, 65_535), number(1, 10_000), number(0, 10_000_000)
+PERIOD = number(1_000, 10_000_000, 0)
+INDEX, SUB, COB_ID = hexadecimal(4), hexadecimal(2), hexadecimal(3, lambda value: value <= 0x7FF)
+OWN_INDEX = hexadecimal(4, lambda value: value not in OBJECTS_OF_PDOS)
+NAMED, TEXT = Form(NAME, bytes), Form(REST, bytes)
 
 FORMS: Dict[bytes, List[Form]] = {
     b"version": [number(1, 3)],
     b"bitrate": [number_of(10, 20, 50, 125, 250, 500, 1000)],
     b"horizon": [TIME],
-    b"manager": [ID, number(1_000, 10_000_000, 0), WORD, number(1, 65_535)],
-    b"time-period": [number(1_000, 10_000_000, 0), WORD],
+    b"manager": [ID, PERIOD, WORD, number(1, 65_535)],
+    b"time-period": [PERIOD, WORD],
     b"sync-counter": [number(2, 240, 0)],
     b"drop-eds": [NAMED],
     b"node": [ID, NAMED, NAMED],
@@ -109,25 +107,11 @@ def command_of(line):
     refuse_unless(not is_bad_line(line), SYNTAX)
     forms = forms_of(words_of(line))
     first, *words = words_of(line, len(forms) + 1 if TEXT in forms else 0)
-    refuse_unless(len(words) == len(forms) and all(form.spelling.fullmatch(word) for form, word in zip(forms, words)), SYNTAX)
-    values = [form.meaning(word) for form, word in zip(forms, words)]
+    refuse_unless(len(words) == len(forms), SYNTAX)
+    refuse_unless(all(form.spelling.fullmatch(word) for form, word in zip(forms, words)), SYNTAX)
+    values = tuple(form.meaning(word) for form, word in zip(forms, words))
     refuse_unless(all(form.is_allowed(value) for form, value in zip(forms, values)), RANGE)
-    return Command(first, arguments_of(first, values))
-
-
-def arguments_of(word, values):
-    if word == b"event":
-        return values[0], event_of(*values[1:])
-    return (values[0], values[1] == b"mandatory") if word == b"need" else tuple(values)
-
-
-def event_of(time, kind, *rest):
-    if kind == b"set":
-        node, index, sub, text = rest
-        return Event(time, "set", node, place=(index, sub), text=text)
-    if kind == b"power":
-        return Event(time, "power", rest[0], is_on=rest[1] == b"on")
-    return Event(time, "nmt", rest[1], service=rest[0])
+    return Command(first, values)
 
 
 def eds_command(line, lines, is_cut):

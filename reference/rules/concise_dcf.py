@@ -1,4 +1,5 @@
 """The concise DCF: docs/rules/concise_dcf.md."""
+import struct
 from dataclasses import dataclass
 
 
@@ -14,9 +15,12 @@ class Write:
         return self.index, self.sub
 
 
-def entry_of(write):
-    return write.index.to_bytes(2, "little") + bytes([write.sub]) + len(write.data).to_bytes(4, "little") + write.data
+def data_of(writes):
+    """The last data of each entry that is written."""
+    return {write.place: write.data for write in writes}
 
 
 def text_of(writes):
-    return len(writes).to_bytes(4, "little") + b"".join(map(entry_of, writes))
+    """How many they are, and of each its index, its sub-index, its length and its data."""
+    return struct.pack("<I", len(writes)) + b"".join(
+        struct.pack("<HBI", write.index, write.sub, len(write.data)) + write.data for write in writes)

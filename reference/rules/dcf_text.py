@@ -1,4 +1,5 @@
 """The DCF of a node: docs/rules/dcf_text.md."""
+from .concise_dcf import data_of
 from .entries import code_of, compact_count, decimal_keys, object_sections
 from .values import text_of_value, type_of_code
 
@@ -10,7 +11,7 @@ def dcf_text(sheet, node, name, bitrate, writes):
     """The text of a node's data sheet, with the values that the node gets, and who it is."""
     content = sheet.content.copy()
     changed = take_values_out(sheet, content)
-    changed |= set_values(sheet, content, {write.place: write.data for write in writes})
+    changed |= set_values(sheet, content, data_of(writes))
     for index in sorted(changed):
         section = content.section(values_name(index))
         section.put(b"NrOfEntries", b"%d" % len(decimal_keys(section)))
@@ -29,8 +30,8 @@ def take_values_out(sheet, content):
             content.section(described.section).remove(b"ParameterValue")
     changed = set()
     for section in object_sections(content):
-        values = content.section(section.name + b"Value")
-        if compact_count(section) is None or type_of_code(code_of(section), sheet.has_all_types) is None or values is None:
+        values, kind = content.section(section.name + b"Value"), type_of_code(code_of(section), sheet.has_all_types)
+        if compact_count(section) is None or kind is None or values is None:
             continue
         for _, key in decimal_keys(values):
             values.remove(key)
@@ -60,5 +61,5 @@ def set_commissioning(content, pairs):
     for key, text in pairs:
         section.put(key, text)
     for key, text in [pair for each in old if each for pair in each.pairs.values()]:
-        if key.lower() not in SET_ANEW and not section.has_key(key):
+        if key.lower() not in SET_ANEW and section.value_at(key) is None:
             section.put(key, text)

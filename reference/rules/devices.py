@@ -3,13 +3,15 @@ from dataclasses import dataclass
 from typing import Optional
 
 from . import sdo
-from .frames import EMERGENCY, ERROR_CONTROL, NMT, SDO_ANSWER, SDO_REQUEST, SYNC, Frame, WaitingFrames, boot_up_message
-from .pdos import APPLIED, KEPT, SHORT, Tpdo, identifier_of, mapping_now, pdo_of_object, pdos_of, receipt, works
+from .frames import (EMERGENCY, ERROR_CONTROL, NMT, SDO_ANSWER, SDO_REQUEST, SYNC, Frame, WaitingFrames,
+                     boot_up_message, is_error_control)
+from .pdos import APPLIED, KEPT, SHORT, pdos_of
 from .values import UNSIGNED8, UNSIGNED16, UNSIGNED32
-from .write_check import IDENTIFIER, is_rpdo_object, is_tpdo_object, number_at, pieces_of_payload, takes
+from .write_check import IDENTIFIER, Dictionary, pieces_of_payload
 
 STOPPED, OPERATIONAL, PRE_OPERATIONAL = 4, 5, 127
 START, STOP, ENTER_PRE_OPERATIONAL, RESET_NODE, RESET_COMMUNICATION = 1, 2, 128, 129, 130
+STATES = {START: OPERATIONAL, STOP: STOPPED, ENTER_PRE_OPERATIONAL: PRE_OPERATIONAL}
 PRODUCER_TIME = (0x1017, 0)
 ERROR_BITS = 0x11
 HEARTBEAT_FAILED, TOO_SHORT, NO_ERROR = 0x8130, 0x8210, 0x0000
@@ -22,21 +24,17 @@ class Consumer:
     has_failed: bool = False
 
 
-class Device:
+class Device(Dictionary):
     """asks(part, node) is called where the device reads a part of the image."""
 
     def __init__(self, number, shape, defaults, asks):
-        self.number, self.shape, self.defaults, self.asks = number, shape, defaults, asks
-        self.waiting = WaitingFrames()
-        pdos = pdos_of(shape)
-        self.tpdo_objects, self.rpdo_objects = (list(filter(is_one, pdos)) for is_one in (is_tpdo_object, is_rpdo_object))
-        self.consumer_subs = [sub for index, sub in sorted(shape.entries)
-                              if index == 0x1016 and sub >= 1 and shape.has_type(index, sub, UNSIGNED32)]
+        super().__init__(shape, {})
+        self.number, self.defaults, self.asks = number, defaults, asks
+        self.waiting, self.pdos = WaitingFrames(), pdos_of(self)
+        self.tpdos = [pdo for pdo in self.pdos.values() if pdo.sends]
+        self.rpdos = [pdo for pdo in self.pdos.values() if not pdo.sends]
         self.has_power = False
         self.forget_all()
-
-    def number_at(self, index, sub, kind):
-        return number_at(self.shape, self.values, index, sub, kind)
 
     # ------------------------------------------------------- power and reset
 
@@ -55,13 +53,13 @@ class Device:
         self.initialise(now)
 
     def forget_all(self):
-        self.waiting.drop_all()
-        self.transfer = None
-        self.heartbeat = None
-        self.consumers = {sub: Consumer() for sub in self.consumer_subs}
-        self.tpdos = {pdo: Tpdo(self, pdo) for pdo in self.tpdo_objects}
-        self.kept_frames = {}                          # by RPDO
+        self.waiting.frames.clear()
+        self.transfer = self.heartbeat = None
         self.sync = None                               # that of this instant
+        self.consumers = {sub: Consumer() for index, sub in sorted(self.shape.entries)
+                          if index == 0x1016 and sub >= 1 and self.shape.has_type(index, sub, UNSIGNED32)}
+        for pdo in self.pdos.values():
+            pdo.forget()
 
     def initialise(self, now):
         self.asks("Defaults", self.number)
@@ -70,7 +68,8 @@ class Device:
         self.state = PRE_OPERATIONAL
         self.waiting.add(("boot-up",), boot_up_message(self.number))
         self.start_heartbeat(now)
-        self.working = {pdo: works(self, pdo) for pdo in self.tpdo_objects + self.rpdo_objects}
+        for pdo in self.pdos.values():
+            pdo.learn()
 
     def start_heartbeat(self, now):
         time = self.number_at(*PRODUCER_TIME, UNSIGNED16)
@@ -85,19 +84,17 @@ class Device:
 
     def write(self, place, data, now):
         """By an event, SDO or an RPDO, with what it brings about."""
+        index, sub = place
         self.values[place] = data
         if place == PRODUCER_TIME and self.shape.has_type(*place, UNSIGNED16):
             self.start_heartbeat(now)
-        if place[0] == 0x1016 and place[1] in self.consumers:
-            was_failed, self.consumers[place[1]] = self.consumers[place[1]].has_failed, Consumer()
+        if index == 0x1016 and sub in self.consumers:
+            was_failed, self.consumers[sub] = self.consumers[sub].has_failed, Consumer()
             if was_failed and not self.any_failed():
                 self.set_error_bits(False)
-        pdo = pdo_of_object(place[0])
-        if pdo in self.working:
-            self.working[pdo] = works(self, pdo)
-            self.kept_frames.pop(pdo, None)
-            if pdo in self.tpdos:
-                self.tpdos[pdo] = Tpdo(self, pdo)
+        pdo = self.pdos.get(index) or self.pdos.get(index - 0x200)
+        if pdo is not None:
+            pdo.learn()
 
     def any_failed(self):
         return any(consumer.has_failed for consumer in self.consumers.values())
@@ -118,21 +115,20 @@ class Device:
 
     def enter(self, state):
         if self.state == OPERATIONAL != state:
-            self.waiting.drop(lambda purpose: purpose[0] == "tpdo")
-            self.tpdos = {pdo: Tpdo(self, pdo) for pdo in self.tpdo_objects}
-            self.kept_frames = {}
+            self.waiting.drop("tpdo")
+            for pdo in self.pdos.values():
+                pdo.forget()
         if state == STOPPED != self.state:
-            self.waiting.drop(lambda purpose: purpose[0] in ("sdo", "emergency"))
+            self.waiting.drop("sdo", "emergency")
             self.transfer = None
         self.state = state
 
     def serve_nmt(self, frame, now):
         if len(frame.data) != 2 or frame.data[1] not in (0, self.number):
             return
-        states = {START: OPERATIONAL, STOP: STOPPED, ENTER_PRE_OPERATIONAL: PRE_OPERATIONAL}
         service = frame.data[0]
-        if service in states:
-            self.enter(states[service])
+        if service in STATES:
+            self.enter(STATES[service])
         elif service in (RESET_NODE, RESET_COMMUNICATION):
             self.reset(service == RESET_NODE, now)
 
@@ -150,11 +146,11 @@ class Device:
         elif frame.id == SDO_REQUEST + self.number and len(frame.data) == 8:
             if self.state != STOPPED:
                 self.serve_sdo(frame.data, now)
-        elif ERROR_CONTROL < frame.id <= ERROR_CONTROL + 127 and len(frame.data) == 1:
+        elif is_error_control(frame):
             self.renew_consumers(frame.id - ERROR_CONTROL, now)
         elif self.state == OPERATIONAL:
-            for pdo in self.rpdo_objects:
-                if self.working[pdo] and identifier_of(self, pdo) == frame.id:
+            for pdo in self.rpdos:
+                if pdo.is_on and pdo.identifier() == frame.id:
                     self.take_pdo(pdo, frame, now)
 
     def sync_identifier(self):
@@ -163,46 +159,43 @@ class Device:
 
     def take_sync(self, frame, now):
         """The frames that RPDOs keep are applied; the TPDOs of this SYNC have their turns later in this instant."""
-        for pdo in self.rpdo_objects:
-            if pdo in self.kept_frames:
-                self.apply(pdo, self.kept_frames.pop(pdo), now)
+        for pdo in self.rpdos:
+            if pdo.kept is not None:
+                data, pdo.kept = pdo.kept, None
+                self.apply(pdo, data, now)
         self.sync = frame
 
     def serve_sdo(self, request, now):
         self.asks("Shape", self.number)
-        after = sdo.server_answer(self.transfer, request, self.shape, self.values)
-        self.transfer = after.transfer
-        if after.written is not None:
-            self.write(*after.written, now)
-        if after.answer is not None:
-            self.waiting.add(("sdo", self.number), Frame(SDO_ANSWER + self.number, after.answer))
+        step = sdo.server_answer(self.transfer, request, self)
+        self.transfer = step.transfer
+        if step.written is not None:
+            self.write(*step.written, now)
+        if step.frame is not None:
+            self.waiting.add(("sdo", self.number), Frame(SDO_ANSWER + self.number, step.frame))
 
     def take_pdo(self, pdo, frame, now):
-        becomes = receipt(self, pdo, frame)
+        becomes = pdo.receipt(frame)
         if becomes == SHORT:
             self.send_emergency(TOO_SHORT)
         elif becomes == KEPT:
-            self.kept_frames[pdo] = frame.data
+            pdo.kept = frame.data
         elif becomes == APPLIED:
             self.apply(pdo, frame.data, now)
 
     def apply(self, pdo, data, now):
         self.asks("Shape", self.number)
-        for place, piece in pieces_of_payload(mapping_now(self, pdo), data):
-            if takes(self.shape, self.values, place, piece):
+        for place, piece in pieces_of_payload(pdo.mapping_now(), data):
+            if self.takes(place, piece):
                 self.write(place, piece, now)
 
-    def watched(self, sub):
-        """The node that a consumer watches, and its time in milliseconds."""
-        value = self.number_at(0x1016, sub, UNSIGNED32)
-        return value >> 16 & 0xFF, value & 0xFFFF
-
     def renew_consumers(self, producer, now):
-        """An error control frame starts and renews the consumers of its node, and ends their failures. None watches the device
-        itself, though the manager's heartbeat has the number of the controller."""
+        """An error control frame starts and renews the consumers of its node, and ends their failures. None watches the
+        device itself, though the manager's heartbeat has the number of the controller."""
         had_failed = False
         for sub, consumer in self.consumers.items():
-            node, time = self.watched(sub)
+            value = self.number_at(0x1016, sub, UNSIGNED32)
+            node, time = value >> 16 & 0xFF, value & 0xFFFF
             if node == producer != self.number and time:
                 had_failed = had_failed or consumer.has_failed
                 consumer.moment, consumer.has_failed = now + 1000 * time, False
@@ -231,16 +224,15 @@ class Device:
         if not self.has_power:
             return
         sync, self.sync = self.sync, None
-        for pdo, tpdo in self.tpdos.items():
-            tpdo.end_inhibit(now)
-            if self.state == OPERATIONAL and self.working[pdo]:
-                data = tpdo.turn(sync, now)
-                if data is not None:
-                    self.waiting.replace(("tpdo", pdo), Frame(identifier_of(self, pdo), data))
+        for pdo in self.tpdos:
+            pdo.end_inhibit(now)
+            data = pdo.turn(sync, now) if self.state == OPERATIONAL and pdo.is_on else None
+            if data is not None:
+                self.waiting.replace(("tpdo", pdo.index), Frame(pdo.identifier(), data))
 
-    def moments(self):
-        """The due moments, some of which are None."""
+    def moments(self, now):
+        """The due moments, some of which are None or past."""
         if not self.has_power:
             return []
         return ([self.heartbeat] + [consumer.moment for consumer in self.consumers.values()]
-                + [moment for tpdo in self.tpdos.values() for moment in (tpdo.inhibit, tpdo.event)])
+                + [moment for pdo in self.tpdos for moment in (pdo.inhibit, pdo.event)])

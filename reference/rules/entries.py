@@ -7,8 +7,8 @@ from dataclasses import dataclass
 from typing import Dict, Optional
 
 from .faults import LIMIT, refuse_unless
-from .ini_text import content_of
-from .values import DOMAIN, UNSIGNED8, UNSIGNED_BITS, is_integer, number, number_in, type_of_code, value, zero_value
+from .ini_text import Section, content_of
+from .values import DOMAIN, UNSIGNED8, UNSIGNED_BITS, fixed_length, is_integer, number, number_in, type_of_code, value
 from .write_check import Entry, Place, Shape
 
 MOST_ENTRIES = 4_096
@@ -45,15 +45,14 @@ def code_of(section):
     return number_at_key(section, b"DataType")
 
 
-def description_of(section, parameter_value, is_compact):
+def description_of(section, listed=None, is_compact=False):
+    """listed: the value of a sub of a compact object."""
+    parameter_value = listed if is_compact else section.value_at(b"ParameterValue")
     access = (section.value_at(b"AccessType") or b"").lower().decode("latin-1")
+    has_mapping = number_at_key(section, b"PDOMapping") not in (None, 0)
     default, low, high = (section.value_at(key) or b"" for key in (b"DefaultValue", b"LowLimit", b"HighLimit"))
-    return Described(code_of(section), access if access in ACCESSES else "rw", number_at_key(section, b"PDOMapping") not in (None, 0),
-                     default, low, high, parameter_value or b"", section.name.lower(), is_compact)
-
-
-def own_description(section):
-    return description_of(section, section.value_at(b"ParameterValue"), False)
+    return Described(code_of(section), access if access in ACCESSES else "rw", has_mapping, default, low, high,
+                     parameter_value or b"", section.name.lower(), is_compact)
 
 
 def entries_of_subs(content):
@@ -61,7 +60,7 @@ def entries_of_subs(content):
     for name, section in content.sections.items():
         match = SUB_SECTION.fullmatch(name)
         if match:
-            yield (int(match[1], 16), int(match[2], 16)), own_description(section)
+            yield (int(match[1], 16), int(match[2], 16)), description_of(section)
 
 
 def object_sections(content):
@@ -76,7 +75,7 @@ def entries_of_objects(content):
     """The second rule: [xxxx] with the ObjectType of one entry, or with none."""
     for section in object_sections(content):
         if section.value_at(b"ObjectType") is None or number_at_key(section, b"ObjectType") in (VAR, DOMAIN_OBJECT):
-            yield (index_of(section), 0), own_description(section)
+            yield (index_of(section), 0), description_of(section)
 
 
 def compact_count(section):
@@ -106,7 +105,8 @@ def entries_of_compact_objects(content):
         count = compact_count(section)
         if count is not None:
             listed, name = listed_values(content, section), section.name.lower()
-            yield (index_of(section), 0), Described(UNSIGNED8, "ro", False, b"%d" % count, b"", b"", listed.get(0, b""), name, True)
+            yield (index_of(section), 0), Described(UNSIGNED8, "ro", False, b"%d" % count, b"", b"", listed.get(0, b""),
+                                                    name, True)
             for sub in range(1, count + 1):
                 yield (index_of(section), sub), description_of(section, listed.get(sub), True)
 
@@ -121,8 +121,9 @@ class DataSheet:
             for place, described in rule(self.content):
                 self.entries.setdefault(place, described)
         refuse_unless(len(self.entries) <= MOST_ENTRIES, LIMIT)
-        self.dummies = frozenset(kind for kind in range(1, 8) if number(
-            self.content.value_at(b"DummyUsage", b"Dummy000%d" % kind) or b"") not in (None, 0))
+        usage = self.content.section(b"DummyUsage") or Section(b"DummyUsage")
+        self.dummies = frozenset(kind for kind in range(1, 8)
+                                 if number_at_key(usage, b"Dummy000%d" % kind) not in (None, 0))
         self.set_types(False)
 
     def set_types(self, has_all: bool) -> None:
@@ -135,10 +136,6 @@ class DataSheet:
         other = copy.copy(self)
         other.set_types(has_all)
         return other
-
-    def value_text(self, place):
-        """The ParameterValue of an entry; an empty one is none."""
-        return self.entries[place].value or None
 
     def limit(self, place, text, node):
         kind = self.types[place]
@@ -157,7 +154,7 @@ class DataSheet:
         """The value that the DefaultValue spells; 0 or the empty string where it is empty or spells none."""
         kind, text = self.types[place], self.entries[place].default
         data = value(kind, text, node) if text else None
-        return zero_value(kind) if data is None else data
+        return bytes(fixed_length(kind) or 0) if data is None else data
 
     def has_unreadable_default(self, place, node):
         kind, text = self.types[place], self.entries[place].default
@@ -166,7 +163,8 @@ class DataSheet:
     def defaults(self, node):
         """The value of each entry of a modelled type at power-on. Who changes values takes a copy."""
         if node not in self.dictionaries:
-            self.dictionaries[node] = {place: self.default(place, node) for place, kind in self.types.items() if kind is not None}
+            self.dictionaries[node] = {place: self.default(place, node) for place, kind in self.types.items()
+                                       if kind is not None}
         return self.dictionaries[node]
 
     def identity(self, node):

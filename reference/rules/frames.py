@@ -3,7 +3,8 @@
 In version 3 the stuff bits of ISO 11898-1 are counted too: along SOF, identifier, RTR, IDE, r0, DLC, data and CRC."""
 from dataclasses import dataclass
 
-NMT, SYNC, EMERGENCY, TIME, SDO_ANSWER, SDO_REQUEST, ERROR_CONTROL = 0x000, 0x080, 0x080, 0x100, 0x580, 0x600, 0x700
+NMT, SYNC, EMERGENCY, TIME = 0x000, 0x080, 0x080, 0x100
+SDO_ANSWER, SDO_REQUEST, ERROR_CONTROL = 0x580, 0x600, 0x700
 DAY_MS = 86_400_000
 
 
@@ -17,8 +18,12 @@ def boot_up_message(node):
     return Frame(ERROR_CONTROL + node, b"\x00")
 
 
+def is_error_control(frame):
+    return ERROR_CONTROL < frame.id <= ERROR_CONTROL + 127 and len(frame.data) == 1
+
+
 def is_boot_up(frame):
-    return ERROR_CONTROL < frame.id <= ERROR_CONTROL + 127 and frame.data == b"\x00"
+    return is_error_control(frame) and frame.data == b"\x00"
 
 
 def nmt_message(service, node):
@@ -26,7 +31,8 @@ def nmt_message(service, node):
 
 
 def time_message(now, first_day):
-    """The milliseconds after midnight in 28 bits of four bytes, and the days since 1984-01-01; the run begins at midnight."""
+    """The milliseconds after midnight in 28 bits of four bytes, and the days since 1984-01-01; the run begins at
+    midnight."""
     days, milliseconds = divmod(now // 1000, DAY_MS)
     return Frame(TIME, milliseconds.to_bytes(4, "little") + ((first_day + days) % 2**16).to_bytes(2, "little"))
 
@@ -54,19 +60,15 @@ def bits_of(number, count):
 
 
 def bits_before_crc(frame):
-    bits = [0] + bits_of(frame.id, 11) + [0, 0, 0] + bits_of(len(frame.data), 4)
-    for byte in frame.data:
-        bits += bits_of(byte, 8)
-    return bits
+    data = [bit for byte in frame.data for bit in bits_of(byte, 8)]
+    return [0] + bits_of(frame.id, 11) + [0, 0, 0] + bits_of(len(frame.data), 4) + data
 
 
 def with_crc(bits):
     register = 0
     for bit in bits:
         is_inverted = bit ^ register >> 14
-        register = register << 1 & 0x7FFF
-        if is_inverted:
-            register ^= 0x4599
+        register = register << 1 & 0x7FFF ^ 0x4599 * is_inverted
     return bits + bits_of(register, 15)
 
 
@@ -88,7 +90,8 @@ def frame_line(time, frame):
 # ------------------------------------------------------------ waiting frames
 
 class WaitingFrames:
-    """The frames that wait at one node, in order, each with its purpose: a word, and for a TPDO its number, for SDO the node."""
+    """The frames that wait at one node, in order, each with its purpose: a word, and of a TPDO its object, of SDO the
+    node."""
 
     def __init__(self):
         self.frames = []
@@ -98,25 +101,22 @@ class WaitingFrames:
 
     def replace(self, purpose, frame):
         """In the place of the first frame of its purpose; where none waits, it goes last."""
-        for place, (other, _) in enumerate(self.frames):
-            if other == purpose:
-                self.frames[place] = purpose, frame
-                return
-        self.add(purpose, frame)
+        purposes = [other for other, _ in self.frames]
+        place = purposes.index(purpose) if purpose in purposes else len(purposes)
+        self.frames[place:place + 1] = [(purpose, frame)]
 
-    def drop(self, is_unwanted):
-        self.frames = [each for each in self.frames if not is_unwanted(each[0])]
-
-    def drop_all(self):
-        self.frames = []
+    def drop(self, *purposes):
+        """Those of these purposes; a word alone is every purpose with it."""
+        self.frames = [(purpose, frame) for purpose, frame in self.frames
+                       if purpose not in purposes and purpose[0] not in purposes]
 
     def take(self, place):
         return self.frames.pop(place)[1]
 
 
 def winner(lists):
-    """The sender and the place of the frame that starts: the least by identifier, then by sender, then by place in the list of
-    the sender. A sender is a pair: its number, and whether it is the manager. None where no frame waits."""
+    """The sender and the place of the frame that starts: the least by identifier, then by sender, then by place in the
+    list of the sender. A sender is a pair: its number, and whether it is the manager. None where no frame waits."""
     least = min(((frame.id, sender, place) for sender, waiting in lists.items()
                  for place, (_, frame) in enumerate(waiting.frames)), default=None)
     return None if least is None else least[1:]

@@ -17,15 +17,12 @@ class Section:
         self.name = name
         self.pairs: Dict[bytes, Tuple[bytes, bytes]] = {}      # by the key in lower case
 
-    def has_key(self, key):
-        return key.lower() in self.pairs
-
     def value_at(self, key) -> Optional[bytes]:
-        return self.pairs[key.lower()][1] if self.has_key(key) else None
+        return self.pairs.get(key.lower(), (key, None))[1]
 
     def put(self, key, value):
         """In the place of the key's value, under its first spelling; a new key goes last."""
-        first_spelling = self.pairs[key.lower()][0] if self.has_key(key) else key
+        first_spelling, _ = self.pairs.get(key.lower(), (key, None))
         self.pairs[key.lower()] = first_spelling, value
 
     def remove(self, key):
@@ -48,10 +45,6 @@ class Content:
     def remove_section(self, name) -> Optional[Section]:
         return self.sections.pop(name.lower(), None)
 
-    def value_at(self, name, key):
-        section = self.section(name)
-        return None if section is None else section.value_at(key)
-
     def copy(self):
         """Another content with the same sections."""
         other = Content()
@@ -65,14 +58,11 @@ class Content:
                         for section in self.sections.values())
 
 
-def has_bad_byte(text):
-    return any(byte < 0x20 and byte not in b"\t\n\r" for byte in text)
-
-
-def lines_of(text):
-    """Ended by LF, the last one by the end of the text, where it isn't empty; without the CRs at their ends."""
+def lines_of(text, goes_on=False):
+    """Without the CRs at their ends. They are ended by LF, the last one, where it isn't empty, by the end of the text,
+    unless that goes on."""
     lines = text.split(b"\n")
-    return [line.rstrip(b"\r") for line in (lines if lines[-1] else lines[:-1])]
+    return [line.rstrip(b"\r") for line in (lines[:-1] if goes_on or not lines[-1] else lines)]
 
 
 def header_name(line):
@@ -88,16 +78,11 @@ def key_value(line):
     return (key.strip(BLANKS), value.strip(BLANKS)) if equals and key.strip(BLANKS) else None
 
 
-def is_misused(key, value):
-    """A CompactPDO that isn't a number 0."""
-    return key.lower() == b"compactpdo" and number(value) != 0
-
-
 def content_of(text):
     """The content of a text that isn't refused."""
     lines = lines_of(text)
     refuse_unless(len(text) <= LONGEST_TEXT and all(len(line) <= LONGEST_LINE for line in lines), RANGE)
-    refuse_unless(not has_bad_byte(text), BAD_BYTE)
+    refuse_unless(all(byte >= 0x20 or byte in b"\t\n\r" for byte in text), BAD_BYTE)
     if text.startswith(BYTE_ORDER_MARK):
         lines[0] = lines[0][len(BYTE_ORDER_MARK):]
     content, current = Content(), None
@@ -112,9 +97,10 @@ def content_of(text):
 
 
 def is_taken(section, line):
-    """Puts the pair of a line into the section, where the section hasn't its key; gives whether there is nothing to warn of."""
+    """Puts the pair of a line into the section, where the section hasn't its key; gives whether there is nothing to
+    warn of."""
     pair = key_value(line)
-    if section is None or pair is None or section.has_key(pair[0]):
+    if section is None or pair is None or section.value_at(pair[0]) is not None:
         return False
     section.put(*pair)
-    return not is_misused(*pair)
+    return pair[0].lower() != b"compactpdo" or number(pair[1]) == 0

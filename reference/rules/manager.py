@@ -1,9 +1,9 @@
 """The manager: the boot of each node, the start of the network, and what it sends by itself: docs/rules/manager.md.
 
-In version 3 the manager starts no node that it hasn't configured: where version 2 starts all nodes at once, each node that is
-configured is started by itself, by number. A node with the manager's number is the controller, the device that the manager
-runs in: it isn't booted, sends the boot-up message in the manager's place, and is started with the network, and from then on
-at each of its boot-ups."""
+In version 3 the manager starts no node that it hasn't configured: where version 2 starts all nodes at once, each node
+that is configured is started by itself, by number. A node with the manager's number is the controller, the device that
+the manager runs in: it isn't booted, sends the boot-up message in the manager's place, and is started with the network,
+and from then on at each of its boot-ups."""
 from dataclasses import dataclass, replace
 from typing import Optional, Tuple
 
@@ -12,18 +12,18 @@ from .devices import START
 from .entries import IDENTITY
 from .frames import (ERROR_CONTROL, SDO_ANSWER, SDO_REQUEST, SYNC, Frame, WaitingFrames, boot_up_message, is_boot_up,
                      nmt_message, time_message)
+from .write_check import Place
 
 NOT_BOOTED, CONFIGURED, FAILED = "not booted", "configured", "failed"
 
 
 @dataclass(frozen=True)
 class Boot:
-    """An open boot. number: of the comparison, from 0, or where nothing more is compared, of the write. expected: the numbers
-    of the comparisons from this one on."""
-    compares: bool
-    number: int
-    expected: Tuple[int, ...]
-    transfer: Optional[sdo.ClientTransfer] = None
+    """An open boot. expected: the entries that are still to be compared, each with its number. number: that of the
+    write, once there are none."""
+    expected: Tuple[Tuple[Place, int], ...]
+    number: int = 0
+    transfer: Optional[sdo.Transfer] = None
     deadline: Optional[int] = None
 
 
@@ -56,12 +56,10 @@ class Manager:
     def boot(self, node, now):
         if self.stages[node] == CONFIGURED:
             self.notes.append((node, b"lost"))
-        self.drop_requests(node)
+        self.waiting.drop(("sdo", node))
         self.asks("Expect", node)
-        self.compare(node, Boot(True, 0, tuple(self.image.identities[node])), now)
-
-    def drop_requests(self, node):
-        self.waiting.drop(lambda purpose: purpose == ("sdo", node))
+        numbers = zip(IDENTITY, self.image.parts["Expect", node])
+        self.go_on(node, Boot(tuple((place, number) for place, number in numbers if number)), now)
 
     def send_sdo(self, node, frame):
         self.waiting.add(("sdo", node), Frame(SDO_REQUEST + node, frame))
@@ -71,18 +69,13 @@ class Manager:
         self.send_sdo(node, progress.frame)
         self.stages[node] = replace(boot, transfer=progress.transfer, deadline=now + 1000 * self.roster.timeout_ms)
 
-    def compare(self, node, boot, now):
-        """The first comparison from this one on of which a number is expected; none is left: the writes."""
-        while boot.expected and boot.expected[0] == 0:
-            boot = replace(boot, number=boot.number + 1, expected=boot.expected[1:])
+    def go_on(self, node, boot, now):
+        """With the next comparison, else with the next write; else the node is configured."""
         if boot.expected:
-            self.request(node, boot, sdo.upload_start(IDENTITY[boot.number]), now)
-        else:
-            self.write(node, Boot(False, 0, ()), now)
-
-    def write(self, node, boot, now):
+            self.request(node, boot, sdo.upload_start(boot.expected[0][0]), now)
+            return
         self.asks("Boot", node, boot.number)
-        write = self.image.write_of_node(node, boot.number)
+        write = self.image.parts.get(("Boot", node, boot.number))
         if write is None:
             self.end_configured(node)
         else:
@@ -95,12 +88,12 @@ class Manager:
             self.end_failed(node, progress, b"%08X" % progress.failure)
         elif progress.transfer is not None:
             self.request(node, boot, progress, now)
-        elif not boot.compares:
-            self.write(node, replace(boot, number=boot.number + 1), now)
-        elif len(progress.read) > 4 or int.from_bytes(progress.read, "little") != boot.expected[0]:
+        elif not boot.expected:
+            self.go_on(node, replace(boot, number=boot.number + 1), now)
+        elif len(progress.read) > 4 or int.from_bytes(progress.read, "little") != boot.expected[0][1]:
             self.end_failed(node, progress, b"difference")
         else:
-            self.compare(node, replace(boot, number=boot.number + 1, expected=boot.expected[1:]), now)
+            self.go_on(node, replace(boot, expected=boot.expected[1:]), now)
 
     def end_failed(self, node, progress, reason):
         if progress.frame is not None:
@@ -136,7 +129,7 @@ class Manager:
         """The time-outs by node, the heartbeat, TIME, SYNC."""
         for node, stage in self.stages.items():
             if isinstance(stage, Boot) and stage.deadline == now:
-                self.drop_requests(node)
+                self.waiting.drop(("sdo", node))
                 self.end_failed(node, sdo.client_abort(stage.transfer, sdo.TIMED_OUT), b"timeout")
         if self.is_due(self.heartbeat_us, now):
             self.waiting.replace(("heartbeat",), Frame(ERROR_CONTROL + self.roster.manager, b"\x05"))

@@ -1,10 +1,10 @@
 """The project: what edits do to it, and how it is printed: docs/rules/commands.md.
 
-Version 3 has `receive MESSAGE ID RPDO MS` and `unreceive MESSAGE ID`: the node takes the message by that RPDO (0: the one that
-the plan gives) and expects it within so many milliseconds (0: the entry stays as it is); and `time-period US DAYS`: the manager
-sends TIME, and the run begins at midnight of that day. A node may have the manager's number."""
+Version 3 has `receive MESSAGE ID RPDO MS` and `unreceive MESSAGE ID`: the node takes the message by that RPDO (0: the
+one that the plan gives) and expects it within so many milliseconds (0: the entry stays as it is); and `time-period US
+DAYS`: the manager sends TIME, and the run begins at midnight of that day. A node may have the manager's number."""
 from dataclasses import dataclass, field
-from typing import Dict, FrozenSet, List, Optional, Tuple
+from typing import Dict, FrozenSet, List, Tuple
 
 from .entries import DataSheet
 from .faults import IN_USE, LIMIT, RANGE, TAKEN, UNKNOWN, refuse_unless
@@ -13,7 +13,18 @@ from .write_check import Place
 
 MOST_TEXTS, MOST_PARAMETERS, MOST_MESSAGES = 64, 4_096, 1_024
 LEAST_VERSION = {b"need": 2, b"receive": 3, b"unreceive": 3, b"time-period": 3}
-REMOVALS = {b"unparam": "parameters", b"unsource": "sources", b"unsink": "sinks", b"unreceive": "receives"}    # by the key alone
+
+# Of each edit: which of its arguments names what has to be there.
+NAMED = {b"drop-eds": {0: "texts"}, b"node": {2: "texts"}, b"need": {0: "nodes"}, b"drop-node": {0: "nodes"},
+         b"param": {0: "nodes"}, b"message": {1: "nodes"}, b"start": {0: "messages"}, b"drop-message": {0: "messages"},
+         b"source": {0: "messages"}, b"sink": {0: "messages", 2: "nodes"}, b"receive": {0: "messages", 1: "nodes"},
+         b"drop-event": {0: "events"}}
+# Of each edit that sets a value: which. Of each that puts or removes a line of a table: which, by how many words.
+VALUES = {b"bitrate": "bit_rate", b"horizon": "horizon", b"sync-counter": "sync_counter"}
+PUTS = {b"source": ("sources", 2), b"sink": ("sinks", 3), b"receive": ("receives", 2)}
+REMOVALS = {b"unparam": "parameters", b"unsource": "sources", b"unsink": "sinks", b"unreceive": "receives"}
+
+EVENT_WORDS = {b"set": b"%d %04X %02X %s", b"power": b"%d %s", b"nmt": b"%d %d"}
 
 
 @dataclass
@@ -37,19 +48,12 @@ class Message:
 @dataclass(frozen=True)
 class Event:
     time: int
-    kind: str                  # set, power or nmt
-    node: int                  # 0 for an NMT command to all
-    place: Optional[Place] = None
-    text: bytes = b""
-    is_on: bool = False
-    service: int = 0
+    kind: bytes                # set, power or nmt
+    words: Tuple               # behind the kind: node, index, sub-index and text; node and on or off; service and node
 
-    def words(self):
-        if self.kind == "set":
-            return b"%d set %d %04X %02X %s" % (self.time, self.node, *self.place, self.text)
-        if self.kind == "power":
-            return b"%d power %d %s" % (self.time, self.node, b"on" if self.is_on else b"off")
-        return b"%d nmt %d %d" % (self.time, self.service, self.node)
+    def node(self):
+        """0 for an NMT command to all."""
+        return self.words[-1 if self.kind == b"nmt" else 0]
 
 
 @dataclass
@@ -68,7 +72,7 @@ class Project:
     messages: Dict[bytes, Message] = field(default_factory=dict)
     sources: Dict[Tuple[bytes, int], Place] = field(default_factory=dict)           # by message and position
     sinks: Dict[Tuple[bytes, int, int], Place] = field(default_factory=dict)        # by message, position and node
-    receives: Dict[Tuple[bytes, int], Tuple[int, int]] = field(default_factory=dict)    # RPDO and ms, by message and node
+    receives: Dict[Tuple[bytes, int], Tuple[int, int]] = field(default_factory=dict)    # by message and node: RPDO, ms
     events: Dict[int, Event] = field(default_factory=dict)
 
     def has(self, part):
@@ -91,17 +95,21 @@ class Project:
     def receives_of(self, message):
         return {node: numbers for (name, node), numbers in self.receives.items() if name == message}
 
-    def events_in_order(self):
-        """By time, and then by number."""
-        return sorted(self.events.items(), key=lambda item: (item[1].time, item[0]))
-
     # ----------------------------------------------------------------- edits
     # Each judges first and changes then: what is refused changes nothing.
 
     def accept(self, word, arguments):
-        """The edit of that first word; its refusal is that of the first of Range, Unknown, Taken, InUse and Limit that holds."""
+        """The edit of that first word; its refusal is that of the first of Range, Unknown, Taken, InUse and Limit that
+        holds."""
         refuse_unless(self.version >= LEAST_VERSION.get(word, 1), RANGE)
-        if word in REMOVALS:
+        named = NAMED.get(word, {}).items()
+        refuse_unless(all(arguments[place] in getattr(self, table) for place, table in named), UNKNOWN)
+        if word in VALUES:
+            setattr(self, VALUES[word], *arguments)
+        elif word in PUTS:
+            table, count = PUTS[word]
+            getattr(self, table)[arguments[:count]] = arguments[count:]
+        elif word in REMOVALS:
             table = getattr(self, REMOVALS[word])
             refuse_unless(arguments in table, UNKNOWN)
             del table[arguments]
@@ -114,12 +122,6 @@ class Project:
         self.version = version
         self.sheets = {name: sheet.with_types(self.has(TYPES)) for name, sheet in self.sheets.items()}
 
-    def edit_bitrate(self, rate):
-        self.bit_rate = rate
-
-    def edit_horizon(self, time):
-        self.horizon = time
-
     def edit_manager(self, *numbers):
         refuse_unless(self.has(CONTROLLER) or numbers[0] not in self.nodes, TAKEN)
         self.manager = numbers
@@ -127,77 +129,54 @@ class Project:
     def edit_time_period(self, period, day):
         self.time = (period, day) if period else (0, 0)
 
-    def edit_sync_counter(self, counter):
-        self.sync_counter = counter
-
     def edit_eds(self, name, lines, sheet):
         refuse_unless(name in self.texts or len(self.texts) < MOST_TEXTS, LIMIT)
         self.texts[name], self.sheets[name] = lines, sheet.with_types(self.has(TYPES))
 
     def edit_drop_eds(self, name):
-        refuse_unless(name in self.texts, UNKNOWN)
         refuse_unless(all(node.eds != name for node in self.nodes.values()), IN_USE)
         del self.texts[name], self.sheets[name]
 
     def edit_node(self, number, name, eds):
-        refuse_unless(eds in self.texts, UNKNOWN)
         refuse_unless(self.has(CONTROLLER) or number != self.manager[0], TAKEN)
         refuse_unless(all(node.name != name for other, node in self.nodes.items() if other != number), TAKEN)
         self.nodes[number] = Node(name, eds, number in self.nodes and self.nodes[number].is_mandatory)
 
-    def edit_need(self, number, is_mandatory):
-        refuse_unless(number in self.nodes, UNKNOWN)
-        self.nodes[number].is_mandatory = is_mandatory
+    def edit_need(self, number, need):
+        self.nodes[number].is_mandatory = need == b"mandatory"
 
     def edit_drop_node(self, number):
-        refuse_unless(number in self.nodes, UNKNOWN)
-        users = [message.node for message in self.messages.values()] + [event.node for event in self.events.values()]
+        users = [message.node for message in self.messages.values()] + [event.node() for event in self.events.values()]
         users += [key[-1] for key in (*self.sinks, *self.receives)]
         refuse_unless(number not in users, IN_USE)
         del self.nodes[number]
         self.parameters = {key: text for key, text in self.parameters.items() if key[0] != number}
 
     def edit_param(self, number, index, sub, text):
-        refuse_unless(number in self.nodes, UNKNOWN)
-        key = number, index, sub
-        refuse_unless(key in self.parameters or sum(each[0] == number for each in self.parameters) < MOST_PARAMETERS, LIMIT)
+        key, count = (number, index, sub), sum(each[0] == number for each in self.parameters)
+        refuse_unless(key in self.parameters or count < MOST_PARAMETERS, LIMIT)
         self.parameters[key] = text
 
     def edit_message(self, name, node, *numbers):
-        refuse_unless(node in self.nodes, UNKNOWN)
         refuse_unless(name in self.messages or len(self.messages) < MOST_MESSAGES, LIMIT)
         start = self.messages[name].start if name in self.messages else 0
         self.messages[name] = Message(node, *numbers, start)
 
     def edit_start(self, name, start):
-        refuse_unless(name in self.messages, UNKNOWN)
         self.messages[name].start = start
 
     def edit_drop_message(self, name):
-        refuse_unless(name in self.messages, UNKNOWN)
         del self.messages[name]
         for table in (self.sources, self.sinks, self.receives):
             for key in [key for key in table if key[0] == name]:
                 del table[key]
 
-    def edit_source(self, name, position, *place):
-        refuse_unless(name in self.messages, UNKNOWN)
-        self.sources[name, position] = place
-
-    def edit_sink(self, name, position, node, *place):
-        refuse_unless(name in self.messages and node in self.nodes, UNKNOWN)
-        self.sinks[name, position, node] = place
-
-    def edit_receive(self, name, node, *numbers):
-        refuse_unless(name in self.messages and node in self.nodes, UNKNOWN)
-        self.receives[name, node] = numbers
-
-    def edit_event(self, k, event):
-        refuse_unless(event.node in self.nodes or event.kind == "nmt" and event.node == 0, UNKNOWN)
+    def edit_event(self, k, time, kind, *words):
+        event = Event(time, kind, words)
+        refuse_unless(event.node() in self.nodes or kind == b"nmt" and event.node() == 0, UNKNOWN)
         self.events[k] = event
 
     def edit_drop_event(self, k):
-        refuse_unless(k in self.events, UNKNOWN)
         del self.events[k]
 
     # ---------------------------------------------------------------- script
@@ -216,12 +195,15 @@ class Project:
         lines += [b"param %d %04X %02X %s" % (*key, text) for key, text in sorted(self.parameters.items())]
         for name, message in sorted(self.messages.items()):
             lines += self.message_lines(name, message)
-        return lines + [b"event %d %s" % (k, event.words()) for k, event in sorted(self.events.items())]
+        return lines + [b"event %d %d %s " % (k, event.time, event.kind) + EVENT_WORDS[event.kind] % event.words
+                        for k, event in sorted(self.events.items())]
 
     def message_lines(self, name, message):
         numbers = message.node, message.tpdo, message.type, message.inhibit, message.event, message.cob_id
         lines = [b"message %s %d %d %d %d %d %03X" % (name, *numbers)]
         lines += [b"start %s %d" % (name, message.start)] if message.start else []
         lines += [b"source %s %d %04X %02X" % (name, position, *place) for position, place in self.sources_of(name)]
-        lines += [b"sink %s %d %d %04X %02X" % (name, *key, *place) for key, place in sorted(self.sinks_of(name).items())]
-        return lines + [b"receive %s %d %d %d" % (name, node, *rest) for node, rest in sorted(self.receives_of(name).items())]
+        lines += [b"sink %s %d %d %04X %02X" % (name, *key, *place)
+                  for key, place in sorted(self.sinks_of(name).items())]
+        return lines + [b"receive %s %d %d %d" % (name, node, *numbers)
+                        for node, numbers in sorted(self.receives_of(name).items())]

@@ -5,7 +5,7 @@ from .commands import QUERIES, block_lines, command_of, eds_command, words_of
 from .dcf_text import dcf_text
 from .diagnostics import diagnostics_of
 from .faults import NAMES, SYNTAX, UNKNOWN, Refused, refuse_unless
-from .ini_text import LONGEST_LINE
+from .ini_text import LONGEST_LINE, lines_of
 from .messages import plan_of
 from .project import Project
 from .versions import WHOLE
@@ -18,53 +18,38 @@ class TooLong(Exception):
     """The input has over 64 MiB."""
 
 
-class Session:
-    """A project, and the replies to commands on it. parts: those of version 3 that are known. work, if any, counts what was made
-    anew for the answers."""
-
-    def __init__(self, parts=WHOLE, work=None):
-        self.project, self.work = Project(parts), work
-
-    def reply(self, line, block, is_cut):
-        """block: the lines that an `eds` line takes, else None; is_cut: the input ended inside them."""
-        try:
-            refuse_unless(words_of(line), SYNTAX)
-            command = command_of(line) if block is None else eds_command(line, block, is_cut)
-            if command.word not in QUERIES:
-                self.project.accept(command.word, command.arguments)
-                return b"ok\n"
-            lines = answer(self.project, command)
-        except Refused as refused:
-            return b"refused %d %s\n" % (refused.number, NAMES[refused.number])
-        if self.work is not None:
-            self.work.reach(self.project, command, lines)
-        return b"lines %d\n" % len(lines) + b"".join(each + b"\n" for each in lines)
-
-    def replies_to(self, data):
-        """The reply to each command of an input, of which one byte more than 64 MiB is enough."""
-        is_too_long = len(data) > LONGEST_INPUT
-        lines, place = complete_lines(data[:LONGEST_INPUT], is_too_long), 0
-        while place < len(lines):
-            line, size = lines[place], block_lines(lines[place])
-            block = None if size is None else lines[place + 1:place + 1 + size]
-            is_cut = block is not None and len(block) < size
-            if is_cut and is_too_long:
-                break
-            if line.strip(b" \t") or len(line) > LONGEST_LINE:
-                yield self.reply(line, block, is_cut)
-            place += 1 + (size or 0)
-        if is_too_long:
-            raise TooLong
-
-
-def complete_lines(data, goes_on):
-    """The lines of an input without the CRs at their ends; the last one, where it isn't ended by LF, only if no more comes."""
-    lines = data.split(b"\n")
-    return [line.rstrip(b"\r") for line in (lines[:-1] if goes_on or not lines[-1] else lines)]
-
-
 def replies_to(data, parts=WHOLE, work=None):
-    return Session(parts, work).replies_to(data)
+    """The reply to each command of an input, of which one byte more than 64 MiB is enough. parts: those of version 3
+    that are known. work, if any, counts what was made anew for the answers."""
+    project, is_too_long = Project(parts), len(data) > LONGEST_INPUT
+    lines, place = lines_of(data[:LONGEST_INPUT], is_too_long), 0
+    while place < len(lines):
+        line, size = lines[place], block_lines(lines[place])
+        block = None if size is None else lines[place + 1:place + 1 + size]
+        is_cut = block is not None and len(block) < size
+        if is_cut and is_too_long:
+            break
+        if line.strip(b" \t") or len(line) > LONGEST_LINE:
+            yield reply(project, work, line, block, is_cut)
+        place += 1 + (size or 0)
+    if is_too_long:
+        raise TooLong
+
+
+def reply(project, work, line, block, is_cut):
+    """block: the lines that an `eds` line takes, else None; is_cut: the input ended inside them."""
+    try:
+        refuse_unless(words_of(line), SYNTAX)
+        command = command_of(line) if block is None else eds_command(line, block, is_cut)
+        if command.word not in QUERIES:
+            project.accept(command.word, command.arguments)
+            return b"ok\n"
+        lines = answer(project, command)
+    except Refused as refused:
+        return b"refused %d %s\n" % (refused.number, NAMES[refused.number])
+    if work is not None:
+        work.reach(project, command, lines)
+    return b"lines %d\n" % len(lines) + b"".join(each + b"\n" for each in lines)
 
 
 def answer(project, query):

@@ -1,7 +1,7 @@
 """Numbers, formulas, and the values of data types: docs/rules/values.md.
 
-Version 3 has more types: INTEGER and UNSIGNED of 24, 40, 48 and 56 bits, REAL32 and REAL64. A type is its code in CiA 301,
-and None where it isn't modelled."""
+Version 3 has more types: INTEGER and UNSIGNED of 24, 40, 48 and 56 bits, REAL32 and REAL64. A type is its code in CiA
+301, and None where it isn't modelled."""
 import re
 
 from . import reals
@@ -11,8 +11,9 @@ UNSIGNED8, UNSIGNED16, UNSIGNED32 = 0x05, 0x06, 0x07
 SIGNED_BITS = {0x02: 8, 0x03: 16, 0x10: 24, 0x04: 32, 0x12: 40, 0x13: 48, 0x14: 56, 0x15: 64}
 UNSIGNED_BITS = {0x05: 8, 0x06: 16, 0x16: 24, 0x07: 32, 0x18: 40, 0x19: 48, 0x1A: 56, 0x1B: 64}
 REALS = {0x08: reals.BINARY32, 0x11: reals.BINARY64}
+WIDTHS = {BOOLEAN: 1, **SIGNED_BITS, **UNSIGNED_BITS, **{kind: form.bits for kind, form in REALS.items()}}
 OF_VERSION_3 = {0x10, 0x12, 0x13, 0x14, 0x16, 0x18, 0x19, 0x1A, *REALS}
-MODELLED = {BOOLEAN, VISIBLE_STRING, OCTET_STRING, DOMAIN, *SIGNED_BITS, *UNSIGNED_BITS, *REALS}
+MODELLED = {VISIBLE_STRING, OCTET_STRING, DOMAIN, *WIDTHS}
 LONGEST_VALUE = 512
 
 NUMBER = re.compile(rb"(-?)(?:0[xX]([0-9A-Fa-f]+)|([0-9]+))")
@@ -32,9 +33,7 @@ def is_integer(kind):
 
 def width_bits(kind):
     """The bits of a value in a PDO; None of a type that has none."""
-    if kind == BOOLEAN:
-        return 1
-    return REALS[kind].bits if kind in REALS else SIGNED_BITS.get(kind) or UNSIGNED_BITS.get(kind)
+    return WIDTHS.get(kind)
 
 
 def fixed_length(kind):
@@ -103,10 +102,6 @@ def number_value(kind, text, spelled):
 def number_in(kind, data):
     """The number that the bytes of a BOOLEAN or integer are."""
     return int.from_bytes(data, "little", signed=kind in SIGNED_BITS)
-
-
-def zero_value(kind):
-    return bytes(fixed_length(kind) or 0)
 
 
 def text_of_value(kind, data):

@@ -1,23 +1,24 @@
 """What is made anew for the answers of a session: docs/costs.md, docs/architecture.md.
 
-Nothing is kept here that an answer is taken from: each is made from scratch, and beside it stands what a program that keeps its
-answers would hold, and how much of it would have to be made anew.
+Nothing is kept here that an answer is taken from: each is made from scratch, and beside it stands what a program that
+keeps its answers would hold, and how much of it would have to be made anew.
 
-- Parts are what answers are made from: a part is made anew where it isn't held, or what it is made from has another value.
-- A segment is one window of a run: it is made anew where none is held that starts from the same state of the network and of
-  which everything that it read is unchanged. A held one that serves has to be what is run now, else the count stops.
+- Parts are what answers are made from: a part is made anew where it isn't held, or what it is made from has another
+  value.
+- A segment is one window of a run: it is made anew where none is held that starts from the same state of the network
+  and of which everything that it read is unchanged. A held one that serves has to be what is run now, else the count
+  stops.
 
-Parts are let go at the next query, not at the edit; the plan says of a message with faults nothing but these, and of a clean one
-what its writes need; a window's events are what they come to; a device without power has no state; the store is cut to its
-capacity at the end of a trace."""
-from dataclasses import astuple, dataclass
+Parts are let go at the next query, not at the edit; the plan says of a message with faults nothing but these, and of a
+clean one what its writes need; a window's events are what they come to; a device without power has no state; the store
+is cut to its capacity at the end of a trace."""
+from dataclasses import astuple, dataclass, replace
 from typing import Dict, List, Optional
 
 from .bus import WINDOW, Bus, Image, Roster
 from .messages import plan_of
 from .values import OF_VERSION_3, UNSIGNED8, UNSIGNED16, UNSIGNED32
 from .versions import TYPES
-from .write_check import is_tpdo_object
 from .writes import node_writes
 
 WINDOWS = 1_001                # of a run to the longest horizon
@@ -68,8 +69,10 @@ class Parts:
         else:
             node, = query.arguments
             writes = self.bring_writes(node, plan)
-            others = (self.bring_device(node), self.project.nodes[node].name, self.project.bit_rate) if query.word == b"dcf" else ()
-            self.bring(("DCF" if others else "Concise", node), (writes, *others))
+            if query.word == b"dcf":
+                self.bring(("DCF", node), (writes, self.bring_device(node), project.nodes[node].name, project.bit_rate))
+            else:
+                self.bring(("Concise", node), writes)
 
     def let_go(self):
         """The parts whose text or node is gone."""
@@ -81,7 +84,8 @@ class Parts:
     def bring_device(self, node):
         """That of the node's text: its sections, its warned lines, and which entries have types of version 3."""
         name, has_types = self.project.nodes[node].eds, self.project.has(TYPES)
-        return self.bring(("Device", name), (self.project.texts[name], has_types), lambda: device_value(self.project.sheets[name]))
+        sheet, inputs = self.project.sheets[name], (self.project.texts[name], has_types)
+        return self.bring(("Device", name), inputs, lambda: device_value(sheet))
 
     def bring_plan(self):
         project = self.project
@@ -97,36 +101,28 @@ class Parts:
         return self.bring(("Writes", node), inputs, lambda: node_writes(self.project, self.plan, node))
 
     def bring_image(self, plan):
-        """All that a run can read: of each node the values of its entries, the entries and its expected identity are one part, and
-        its writes one."""
+        """All that a run can read: of each node the values of its entries, the entries and its expected identity are
+        one part, and its writes one."""
         project = self.project
         self.bring(("Roster",), Roster.of(project))
         for node in sorted(project.nodes):
             device, writes = self.bring_device(node), self.bring_writes(node, plan)
             self.bring(("Node", node), (device, writes if node == project.controller() else None))
-        windows = windows_of(Image(project))
+        image = Image(project)
         for number in range(WINDOWS):
-            self.bring(("Events", number), windows.get(number))
-
-
-def windows_of(image):
-    """The steps of each window that has some."""
-    windows = {}
-    for step in image.steps:
-        windows.setdefault(step.time // WINDOW, []).append(step)
-    return windows
+            self.bring(("Events", number), image.parts.get(("Events", number)))
 
 
 def device_value(sheet):
     sections = [(section.name, list(section.pairs.values())) for section in sheet.content.sections.values()]
-    return sections, sheet.content.warnings, {place: kind for place, kind in sheet.types.items() if kind in OF_VERSION_3}
+    types = {place: kind for place, kind in sheet.types.items() if kind in OF_VERSION_3}
+    return sections, sheet.content.warnings, types
 
 
 def planned_value(planned):
     if not planned.is_clean():
         return planned.name, planned.faults
-    message = planned.message
-    numbers = message.node, message.tpdo, message.type, message.inhibit, message.event, message.start, planned.identifier
+    numbers = (*astuple(replace(planned.message, cob_id=0)), planned.identifier)
     times = {node: planned.milliseconds(node) for node in planned.consumers()}
     return planned.name, numbers, planned.mapping, dict(planned.rpdos), dict(planned.mappings), times
 
@@ -136,66 +132,52 @@ def planned_value(planned):
 def learnt(device):
     """Which entries are there with the type that a rule asks for: learnt at power-on and at a reset."""
     has = device.shape.has_type
-    pdos = [(pdo, has(pdo, 2, UNSIGNED8)) + ((has(pdo, 3, UNSIGNED16), has(pdo, 5, UNSIGNED16), has(pdo, 6, UNSIGNED8))
-                                             if is_tpdo_object(pdo) else ()) for pdo in device.working]
-    return (has(0x1001, 0, UNSIGNED8), has(0x1005, 0, UNSIGNED32), has(0x1017, 0, UNSIGNED16), has(0x1019, 0, UNSIGNED8),
-            device.consumer_subs, pdos)
+    pdos = [(index, has(index, 2, UNSIGNED8)) + ((has(index, 3, UNSIGNED16), has(index, 5, UNSIGNED16),
+                                                  has(index, 6, UNSIGNED8)) if pdo.sends else ())
+            for index, pdo in device.pdos.items()]
+    return (has(0x1001, 0, UNSIGNED8), has(0x1005, 0, UNSIGNED32), has(0x1017, 0, UNSIGNED16),
+            has(0x1019, 0, UNSIGNED8), list(device.consumers), pdos)
 
 
 def device_state(device):
     if not device.has_power:
         return None
-    return (device.state, dict(device.values), learnt(device), list(device.waiting.frames), device.transfer, device.heartbeat,
-            {sub: (consumer.moment, consumer.has_failed) for sub, consumer in device.consumers.items()},
-            {pdo: (tpdo.last, tpdo.inhibit, tpdo.event, tpdo.counted, tpdo.has_started) for pdo, tpdo in device.tpdos.items()},
-            dict(device.kept_frames), dict(device.working))
+    return (device.state, dict(device.values), learnt(device), list(device.waiting.frames), device.transfer,
+            device.heartbeat, {sub: astuple(consumer) for sub, consumer in device.consumers.items()},
+            {index: (pdo.is_on, pdo.last, pdo.inhibit, pdo.event, pdo.counted, pdo.has_started, pdo.kept)
+             for index, pdo in device.pdos.items()})
 
 
 def bus_state(bus):
-    """The state of the network between two windows: no event is left of the one before, and none is read of the next."""
+    """The state of the network between two windows: no event is left of the one before, and none is read of the
+    next."""
     manager = bus.manager
     return (bus.roster, bus.slot, dict(manager.stages), manager.has_started_network, list(manager.waiting.frames),
             {node: device_state(device) for node, device in bus.devices.items()})
 
 
-class ImageParts:
-    """What each part of an image has as its value now; None where it is absent."""
-
-    def __init__(self, project):
-        self.image = Image(project)
-        self.windows = windows_of(self.image)
-
-    def value(self, part, *key):
-        if part == "Roster":
-            return self.image.roster
-        if part == "Boot":
-            return self.image.write_of_node(*key) if key[0] in self.image.writes else None
-        tables = {"Defaults": self.image.defaults, "Shape": self.image.shapes, "Expect": self.image.identities, "Events": self.windows}
-        return tables[part].get(*key)
-
-
 @dataclass
 class Segment:
-    """A window of a run: the state that it starts from (None before power-on), what each part had that it read, its lines with
-    their times, and the state that it ends in."""
+    """A window of a run: the state that it starts from (None before power-on), what each part had that it read, its
+    lines with their times, and the state that it ends in."""
     number: int
     start: Optional[tuple]
     reads: Dict
     lines: List
     end: tuple
 
-    def serves(self, start, parts):
-        return self.start == start and all(parts.value(*part) == value for part, value in self.reads.items())
+    def serves(self, start, image):
+        return self.start == start and all(image.parts.get(part) == value for part, value in self.reads.items())
 
 
-def segments_of(parts, last):
+def segments_of(image, last):
     """The windows 0 to last of the run, each from the state that the one before ends in."""
     reads = {}
 
     def asks(*part):
-        reads.setdefault(part, parts.value(*part))
+        reads.setdefault(part, image.parts.get(part))
 
-    start, bus = None, Bus(parts.image, asks)
+    start, bus = None, Bus(image, asks)
     for number in range(last + 1):
         asks("Events", number)
         lines, now = [], WINDOW * number               # the start of a window is due
@@ -215,10 +197,12 @@ class Store:
         self.capacity, self.held, self.made = capacity, [], 0
 
     def trace(self, project, answer):
-        """The state in which a window begins is the same whether those before it were run or used: so each is run here."""
-        parts, reached = ImageParts(project), []
-        for run in segments_of(parts, project.horizon // WINDOW):
-            used = next((held for held in self.held if held.number == run.number and held.serves(run.start, parts)), None)
+        """The state in which a window begins is the same whether those before it were run or used: so each is run
+        here."""
+        image, reached = Image(project), []
+        for run in segments_of(image, project.horizon // WINDOW):
+            used = next((held for held in self.held
+                         if held.number == run.number and held.serves(run.start, image)), None)
             if used is None:
                 self.made += 1
             elif (used.reads, used.lines, used.end) != (run.reads, run.lines, run.end):

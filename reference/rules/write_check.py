@@ -1,8 +1,8 @@
 """Entries, what a device answers to a write or a read, and how PDOs carry values: docs/rules/write_check.md.
 
-The values of a device are a dict from (index, sub) to bytes: it has one for each entry of a modelled type. Each check gives
-the abort code of the first line that refuses, or None. In version 3 a REAL is mapped as an integer is, and its limits aren't
-asked."""
+The values of a device are a dict from (index, sub) to bytes: it has one for each entry of a modelled type. Each check
+gives the abort code of the first line that refuses, or None. In version 3 a REAL is mapped as an integer is, and its
+limits aren't asked."""
 from dataclasses import dataclass, field
 from typing import Dict, FrozenSet, Optional, Tuple
 
@@ -16,6 +16,9 @@ INVALID_VALUE, VALUE_TOO_HIGH, VALUE_TOO_LOW = 0x06090030, 0x06090031, 0x0609003
 
 OFF, NO_RTR, EXTENDED, IDENTIFIER = 1 << 31, 1 << 30, 1 << 29, 0x7FF        # bits of a COB-ID
 RESTRICTED = ((0x000, 0x07F), (0x101, 0x180), (0x581, 0x5FF), (0x601, 0x67F), (0x6E0, 0x6FF), (0x701, 0x7FF))
+RPDO_OBJECTS, TPDO_OBJECTS = range(0x1400, 0x1600), range(0x1800, 0x1A00)
+COMMUNICATION_OBJECTS = {*RPDO_OBJECTS, *TPDO_OBJECTS}                      # the mapping object lies 200h above
+OBJECTS_OF_PDOS = range(0x1400, 0x1C00)
 SENDABLE, RECEIVABLE = ("ro", "rw", "rwr", "const"), ("wo", "rw", "rww")
 
 Place = Tuple[int, int]        # index and sub-index
@@ -57,53 +60,97 @@ class Shape:
         entry = self.entry(index, sub)
         return entry is not None and entry.type == kind
 
+    def access_check(self, index, sub):
+        """What needs no value."""
+        entry = self.entry(index, sub)
+        if entry is None:
+            return NO_SUB_INDEX if index in self.indices else NO_OBJECT
+        if entry.type is None:
+            return UNSUPPORTED_ACCESS
+        return None if entry.is_writable() else READ_ONLY
 
-def number_at(shape, values, index, sub, kind):
-    """The number of an entry that is there with that type, else None."""
-    return number_in(kind, values[index, sub]) if shape.has_type(index, sub, kind) else None
+    def length_check(self, index, sub, length):
+        """What needs the value's length alone."""
+        if fixed_length(self.entry(index, sub).type) not in (None, length):
+            return LENGTH_DOES_NOT_MATCH
+        return LENGTH_TOO_HIGH if length > LONGEST_VALUE else None
+
+    def read_check(self, index, sub):
+        entry = self.entry(index, sub)
+        if entry is None or entry.type is None:
+            return self.access_check(index, sub)
+        return WRITE_ONLY if entry.access == "wo" else None
+
+    def mapped_width(self, item, receives):
+        """The bits of what a mapping entry names, where a PDO of that direction can map it."""
+        index, sub = mapped_place(item)
+        entry = self.entry(index, sub)
+        if entry is not None and entry.is_mappable(receives):
+            return width_bits(entry.type)
+        return width_bits(index) if receives and sub == 0 and index in self.dummies else None
+
+
+class Dictionary:
+    """The entries of a device, and their values: bytes by index and sub-index, of each entry of a modelled type."""
+
+    def __init__(self, shape, values):
+        self.shape, self.values = shape, values
+
+    def number_at(self, index, sub, kind):
+        """The number of an entry that is there with that type, else None."""
+        return number_in(kind, self.values[index, sub]) if self.shape.has_type(index, sub, kind) else None
+
+    def write_check(self, index, sub, data):
+        return (self.shape.access_check(index, sub) or self.shape.length_check(index, sub, len(data))
+                or value_check(self.shape.entry(index, sub), data) or self.cob_id_check(index, sub, data)
+                or self.mapping_object_check(index, sub, data))
+
+    def cob_id_check(self, index, sub, data):
+        """A PDO is turned off before its frames change, and turned on with no restricted identifier."""
+        if sub != 1 or index not in COMMUNICATION_OBJECTS or not self.shape.has_type(index, 1, UNSIGNED32):
+            return None
+        old, new = self.number_at(index, 1, UNSIGNED32), number_in(UNSIGNED32, data)
+        takes_restricted = not new & OFF and is_restricted(new & IDENTIFIER)
+        changes_frames = not new & OFF and not old & OFF and (old ^ new) & (EXTENDED | EXTENDED - 1)
+        return INVALID_VALUE if takes_restricted or changes_frames else None
+
+    def mapping_object_check(self, index, sub, data):
+        """A mapping changes while its PDO is off and, from sub-index 1 on, its count 0."""
+        if index - 0x200 not in COMMUNICATION_OBJECTS:
+            return None
+        cob_id = self.number_at(index - 0x200, 1, UNSIGNED32)
+        if cob_id is not None and not cob_id & OFF or sub >= 1 and self.number_at(index, 0, UNSIGNED8):
+            return UNSUPPORTED_ACCESS
+        return self.mapping_check(index, data[0]) if sub == 0 and self.shape.has_type(index, 0, UNSIGNED8) else None
+
+    def mapping_check(self, index, count):
+        """Of a mapping object with that count."""
+        if count > 64:
+            return PDO_LENGTH_EXCEEDED
+        receives = index - 0x200 in RPDO_OBJECTS
+        items = [self.number_at(index, sub, UNSIGNED32) for sub in range(1, count + 1)]
+        if any(item is None or self.shape.mapped_width(item, receives) != item & 0xFF for item in items):
+            return CANNOT_BE_MAPPED
+        return PDO_LENGTH_EXCEEDED if sum(item & 0xFF for item in items) > 64 else None
+
+    def payload_of(self, mapping):
+        """The frame of the mapped values: position p is bit p mod 8 of byte p div 8."""
+        bits, position = 0, 0
+        for item in mapping:
+            length = item & 0xFF
+            data = self.values.get(mapped_place(item), b"")
+            bits |= (int.from_bytes(data, "little") & (1 << length) - 1) << position
+            position += length
+        return bits.to_bytes(bytes_begun(mapping), "little")
+
+    def takes(self, place, data):
+        """An RPDO writes this value of a mapped entry; of a dummy, and of what the check refuses, it writes none."""
+        entry = self.shape.entry(*place)
+        return entry is not None and entry.is_mappable(True) and self.write_check(*place, data) is None
 
 
 def is_restricted(identifier):
     return any(low <= identifier <= high for low, high in RESTRICTED)
-
-
-def is_of_pdos(index):
-    return 0x1400 <= index <= 0x1BFF
-
-
-def is_rpdo_object(index):
-    """The communication object of an RPDO."""
-    return 0x1400 <= index <= 0x15FF
-
-
-def is_tpdo_object(index):
-    return 0x1800 <= index <= 0x19FF
-
-
-def is_mapping_object(index):
-    return is_rpdo_object(index - 0x200) or is_tpdo_object(index - 0x200)
-
-
-def access_check(shape, index, sub):
-    """What needs no value."""
-    entry = shape.entry(index, sub)
-    if entry is None:
-        return NO_SUB_INDEX if index in shape.indices else NO_OBJECT
-    if entry.type is None:
-        return UNSUPPORTED_ACCESS
-    return None if entry.is_writable() else READ_ONLY
-
-
-def length_check(shape, index, sub, length):
-    """What needs the value's length alone."""
-    if fixed_length(shape.entry(index, sub).type) not in (None, length):
-        return LENGTH_DOES_NOT_MATCH
-    return LENGTH_TOO_HIGH if length > LONGEST_VALUE else None
-
-
-def write_check(shape, values, index, sub, data):
-    return (access_check(shape, index, sub) or length_check(shape, index, sub, len(data)) or value_check(shape.entry(index, sub), data)
-            or cob_id_check(shape, values, index, sub, data) or mapping_object_check(shape, values, index, sub, data))
 
 
 def value_check(entry, data):
@@ -118,75 +165,13 @@ def value_check(entry, data):
     return None
 
 
-def cob_id_check(shape, values, index, sub, data):
-    """A PDO is turned off before its frames change, and turned on with no restricted identifier."""
-    if sub != 1 or not (is_rpdo_object(index) or is_tpdo_object(index)) or not shape.has_type(index, 1, UNSIGNED32):
-        return None
-    old, new = number_at(shape, values, index, 1, UNSIGNED32), number_in(UNSIGNED32, data)
-    takes_restricted = not new & OFF and is_restricted(new & IDENTIFIER)
-    changes_frames = not new & OFF and not old & OFF and (old ^ new) & (EXTENDED | EXTENDED - 1)
-    return INVALID_VALUE if takes_restricted or changes_frames else None
-
-
-def mapping_object_check(shape, values, index, sub, data):
-    """A mapping changes while its PDO is off and, from sub-index 1 on, its count 0."""
-    if not is_mapping_object(index):
-        return None
-    cob_id = number_at(shape, values, index - 0x200, 1, UNSIGNED32)
-    if cob_id is not None and not cob_id & OFF or sub >= 1 and number_at(shape, values, index, 0, UNSIGNED8):
-        return UNSUPPORTED_ACCESS
-    if sub == 0 and shape.has_type(index, 0, UNSIGNED8):
-        return mapping_check(shape, values, index, data[0])
-    return None
-
-
-def mapping_check(shape, values, index, count):
-    """Of a mapping object with that count."""
-    if count > 64:
-        return PDO_LENGTH_EXCEEDED
-    total = 0
-    for sub in range(1, count + 1):
-        item = number_at(shape, values, index, sub, UNSIGNED32)
-        if item is None or mapped_width(shape, item, is_rpdo_object(index - 0x200)) != item & 0xFF:
-            return CANNOT_BE_MAPPED
-        total += item & 0xFF
-    return PDO_LENGTH_EXCEEDED if total > 64 else None
-
-
 def mapped_place(item):
     """The entry that a mapping entry names."""
     return item >> 16, item >> 8 & 0xFF
 
 
-def mapped_width(shape, item, receives):
-    """The bits of what a mapping entry names, where a PDO of that direction can map it."""
-    index, sub = mapped_place(item)
-    entry = shape.entry(index, sub)
-    if entry is not None and entry.is_mappable(receives):
-        return width_bits(entry.type)
-    return width_bits(index) if receives and sub == 0 and index in shape.dummies else None
-
-
-def read_check(shape, index, sub):
-    entry = shape.entry(index, sub)
-    if entry is None or entry.type is None:
-        return access_check(shape, index, sub)
-    return WRITE_ONLY if entry.access == "wo" else None
-
-
 def bytes_begun(mapping):
     return (sum(item & 0xFF for item in mapping) + 7) // 8
-
-
-def payload_of(values, mapping):
-    """The frame of the mapped values: position p is bit p mod 8 of byte p div 8."""
-    bits, position = 0, 0
-    for item in mapping:
-        length = item & 0xFF
-        data = values.get(mapped_place(item), b"")
-        bits |= (int.from_bytes(data, "little") & (1 << length) - 1) << position
-        position += length
-    return bits.to_bytes(bytes_begun(mapping), "little")
 
 
 def pieces_of_payload(mapping, data):
@@ -196,9 +181,3 @@ def pieces_of_payload(mapping, data):
         length = item & 0xFF
         yield mapped_place(item), (bits & (1 << length) - 1).to_bytes((length + 7) // 8, "little")
         bits >>= length
-
-
-def takes(shape, values, place, data):
-    """An RPDO writes this value of a mapped entry; of a dummy, and of what the check refuses, it writes none."""
-    entry = shape.entry(*place)
-    return entry is not None and entry.is_mappable(True) and write_check(shape, values, *place, data) is None

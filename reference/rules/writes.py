@@ -1,20 +1,22 @@
 """The writes of a node: of its parameters docs/rules/commands.md, of its PDOs docs/rules/messages.md.
 
-In version 3 a closed PDO gets its transmission type and event time alone, an RPDO the event time of a `receive`, and a PDO
-that no clean message uses is turned off."""
+In version 3 a closed PDO gets its transmission type and event time alone, an RPDO the event time of a `receive`, and a
+PDO that no clean message uses is turned off."""
 from .concise_dcf import Write
-from .pdo_objects import COB_ID, EVENT, INHIBIT, NUMBERS, RPDO, START, TPDO, TYPE, is_synchronous, pdo_objects
+from .pdo_objects import COB_ID, EVENT, INHIBIT, RPDO, START, TPDO, TYPE, is_synchronous, numbers_of, pdo_objects
 from .values import is_integer, number_in, value
-from .write_check import NO_RTR, OFF, is_of_pdos
+from .write_check import NO_RTR, OBJECTS_OF_PDOS, OFF
 
 NO_ENTRY, NO_VALUE, OUTSIDE_LIMITS, READ_ONLY, NOT_MODELLED = 1, 2, 3, 4, 16
 LENGTHS = {COB_ID: 4, TYPE: 1, INHIBIT: 2, EVENT: 2, START: 1}
 
 
 def parameter_texts(project, node):
-    """The text of each parameter: the node's own, else the ParameterValue of its data sheet outside the objects of PDOs."""
+    """The text of each parameter: the node's own, else the ParameterValue of its data sheet outside the objects of
+    PDOs."""
     sheet = project.sheet(node)
-    texts = {place: sheet.value_text(place) for place in sheet.entries if sheet.value_text(place) and not is_of_pdos(place[0])}
+    texts = {place: described.value for place, described in sheet.entries.items()
+             if described.value and place[0] not in OBJECTS_OF_PDOS}
     texts.update({(index, sub): text for (number, index, sub), text in project.parameters.items() if number == node})
     return texts
 
@@ -31,23 +33,24 @@ def parameter_fault(shape, place, text, node):
     data = value(entry.type, text, node)
     if data is None:
         return NO_VALUE
-    return OUTSIDE_LIMITS if is_integer(entry.type) and not entry.is_within_limits(number_in(entry.type, data)) else None
+    is_within = not is_integer(entry.type) or entry.is_within_limits(number_in(entry.type, data))
+    return None if is_within else OUTSIDE_LIMITS
 
 
 def parameter_writes(project, node):
     shape = project.sheet(node).shape(node)
-    return [Write(*place, value(shape.entry(*place).type, text, node)) for place, text in sorted(parameter_texts(project, node).items())
+    texts = sorted(parameter_texts(project, node).items())
+    return [Write(*place, value(shape.entry(*place).type, text, node)) for place, text in texts
             if parameter_fault(shape, place, text, node) is None]
 
 
 def node_writes(project, plan, node):
     """The parameters by index and sub-index, then the TPDOs and then the RPDOs by number."""
     writes = parameter_writes(project, node)
-    sent, taken = sent_by(plan, node), taken_by(plan, node)
-    for number in NUMBERS:
-        writes += tpdo_writes(pdo_objects(project, node, TPDO, number), sent.get(number))
-    for number in NUMBERS:
-        writes += rpdo_writes(pdo_objects(project, node, RPDO, number), taken.get(number), node)
+    for base, used in ((TPDO, sent_by(plan, node)), (RPDO, taken_by(plan, node))):
+        for number in numbers_of(project, node, base):
+            pdo = pdo_objects(project, node, base, number)
+            writes += used_writes(pdo, used[number], node) if number in used else pdo.off_writes()
     return writes
 
 
@@ -61,40 +64,27 @@ def taken_by(plan, node):
     return {planned.rpdos[node]: planned for planned in plan if planned.is_clean() and node in planned.rpdos}
 
 
-def unused_writes(pdo):
-    off = pdo.off_write()
-    return [] if off is None else [off]
-
-
-def tpdo_writes(pdo, planned):
-    if planned is None:
-        return unused_writes(pdo)
-    message = planned.message
+def used_writes(pdo, planned, node):
+    message, milliseconds = planned.message, planned.milliseconds(node)
+    if pdo.receives:
+        parameters = [(TYPE, 0 if is_synchronous(message.type) else 255)]
+        parameters += [(EVENT, milliseconds)] if milliseconds else []          # 0 leaves the entry as it is
+        return pdo_writes(pdo, planned.identifier, parameters, planned.mappings[node])
     parameters = [(TYPE, message.type), (INHIBIT, message.inhibit), (EVENT, message.event), (START, message.start)]
     return pdo_writes(pdo, NO_RTR | planned.identifier, parameters, planned.mapping)
 
 
-def rpdo_writes(pdo, planned, node):
-    if planned is None:
-        return unused_writes(pdo)
-    parameters = [(TYPE, 0 if is_synchronous(planned.message.type) else 255)]
-    if planned.milliseconds(node):                     # 0 leaves the entry as it is
-        parameters.append((EVENT, planned.milliseconds(node)))
-    return pdo_writes(pdo, planned.identifier, parameters, planned.mappings[node])
-
-
 def pdo_writes(pdo, cob_id, parameters, mapping):
     """An open PDO is configured while it is off, and its mapping while its count is 0."""
-    settings = [write_of(pdo.communication, sub, number, LENGTHS[sub]) for sub, number in parameters if pdo.is_written(sub, number)]
+    settings = [write_of(pdo.communication, sub, number, LENGTHS[sub]) for sub, number in parameters
+                if pdo.is_written(sub, number)]
     if not pdo.is_open():
         return settings
-    items = mapping_writes(pdo.mapping, mapping) if pdo.writes_mapping(mapping) else []
-    return [write_of(pdo.communication, COB_ID, OFF | cob_id, 4), *settings, *items, write_of(pdo.communication, COB_ID, cob_id, 4)]
-
-
-def mapping_writes(index, mapping):
-    items = [write_of(index, sub, item, 4) for sub, item in enumerate(mapping, 1)]
-    return [write_of(index, 0, 0, 1), *items, write_of(index, 0, len(mapping), 1)]
+    items = [write_of(pdo.mapping, sub, item, 4) for sub, item in enumerate(mapping, 1)]
+    before, behind = (write_of(pdo.mapping, 0, count, 1) for count in (0, len(mapping)))
+    items = [before, *items, behind] if pdo.writes_mapping(mapping) else []
+    off, on = (write_of(pdo.communication, COB_ID, bits | cob_id, 4) for bits in (OFF, 0))
+    return [off, *settings, *items, on]
 
 
 def write_of(index, sub, number, length):

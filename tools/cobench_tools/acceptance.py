@@ -22,7 +22,7 @@ LOAD = frozenset("late unbounded overload assumed trace".split())
 LOG = frozenset("""never-boots never-seen two-devices gap boot-stops boots-again unplanned-node silent state identity
 sdo-missing sdo-value sdo-order sdo-unplanned sdo-abort sdo-unanswered pdo-unplanned pdo-length pdo-inhibit pdo-event
 pdo-missing pdo-extra pdo-window pdo-limit pdo-swapped pdo-value sync-period sync-missing sync-extra sync-counter
-sync-unplanned heartbeat-late heartbeat-missed emcy load cut clock-back error-frame remote-frame""".split())
+sync-unplanned time-missing time-bytes heartbeat-late heartbeat-missed emcy load cut clock-back error-frame remote-frame""".split())
 BUS = frozenset("identity sdo-abort sdo-unanswered differs boots-again disturbed".split())
 KNOWN = PLAN | SCRIPT | FILES | LOAD | LOG | BUS
 DIAGNOSTIC = re.compile("[EW][0-9]{2}")

@@ -11,6 +11,7 @@ from .sheet_difference import sheets
 from .wiring import Wiring
 
 QUERIES = Evidence.QUERIES + ("dcf",)
+NO_TIME = "none", "none"
 
 
 class Side:
@@ -38,6 +39,8 @@ def settings(old, new):
     lines = changed("version of the script", one.version, two.version)
     lines += changed("bit rate [kbit/s]", one.bitrate, two.bitrate)
     for name, before, after in zip(names, one.manager, two.manager):
+        lines += changed(name, before, after)
+    for name, before, after in zip(("TIME each [us]", "first day of TIME"), one.time or NO_TIME, two.time or NO_TIME):
         lines += changed(name, before, after)
     return (lines + changed("SYNC is counted to", one.sync_counter or "none", two.sync_counter or "none")
             + changed("horizon [us]", one.horizon, two.horizon))

@@ -9,7 +9,7 @@ from . import tool
 from .logs import source
 from .logs.rows import EXTENDED
 from .responses import LONGEST_BUSY
-from .traffic import EMCY, HEARTBEAT, LONGEST, SDO, SYNC, Traffic, time_text
+from .traffic import EMCY, HEARTBEAT, LONGEST, SDO, SYNC, TIME, Traffic, time_text
 
 FORM = re.compile("(?:0[xX])?([0-9A-Fa-f]{1,8}):([0-9]{1,2}):([0-9]{1,9})")
 GREATEST, GREATEST_EXTENDED, LONGEST_PERIOD = 0x7FF, 0x1FFFFFFF, 100_000_000
@@ -92,7 +92,7 @@ def recorded(path, network):
 def planned_identifiers(network):
     """The identifiers of what the network sends itself, but for SDO."""
     nodes = set(network.nodes) | {network.project.manager[0]}
-    found = {0, SYNC} | {tpdo.identifier for tpdo in network.tpdos}
+    found = {0, SYNC} | ({TIME} if network.project.time else set()) | {tpdo.identifier for tpdo in network.tpdos}
     return found | {base + node for base in (EMCY, HEARTBEAT) for node in nodes}
 
 

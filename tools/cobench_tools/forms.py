@@ -8,7 +8,7 @@ from .likely import number_hint
 # The words behind the first one, by command. An event's third word decides on the rest.
 FORMS = {
     "version": "VERSION", "bitrate": "RATE", "horizon": "US", "manager": "ID SYNC_US HB_MS TIMEOUT_MS",
-    "sync-counter": "COUNTER",
+    "time-period": "US DAYS", "sync-counter": "COUNTER",
     "eds": "NAME LINES", "drop-eds": "NAME", "node": "ID NAME EDS", "need": "ID NEED", "drop-node": "ID",
     "param": "ID INDEX SUB TEXT", "unparam": "ID INDEX SUB",
     "message": "NAME ID TPDO TYPE INHIBIT EVENT COB", "start": "MESSAGE START", "drop-message": "NAME",

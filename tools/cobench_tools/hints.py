@@ -29,7 +29,9 @@ def why_of_this_version(project, version):
     if version == 1 and project.mandatory:
         return f"mandatory: {list_of(sorted(project.mandatory))}"
     receives = [name for name, message in sorted(project.messages.items()) if message.receives]
-    return f"messages with a receive, which is of version 3: {list_of(receives)}" if version < 3 and receives else None
+    if version < 3 and receives:
+        return f"messages with a receive, which is of version 3: {list_of(receives)}"
+    return "a time-period, which is of version 3: time-period 0 0 takes it away" if version < 3 and project.time else None
 
 
 def named(command, project):

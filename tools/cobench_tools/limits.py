@@ -3,14 +3,14 @@ from . import script, tool
 from .forms import form_of
 from .project import RATES, SERVICES
 
-LEAST_SYNC = 1000
+LEAST_PERIOD = 1000
 
 # The least and the greatest number of each kind of word.
 LIMITS = {
     "ID": (1, 127), "TO": (0, 127), "POS": (1, 64), "TPDO": (1, 512), "TYPE": (0, 255), "INHIBIT": (0, 65535),
     "EVENT": (0, 65535), "HB_MS": (0, 65535), "TIMEOUT_MS": (1, 65535), "US": (0, 10_000_000), "K": (1, 10_000),
     "TIME": (0, 10_000_000), "SYNC_US": (0, 10_000_000), "VERSION": (1, 3), "COUNTER": (0, 240), "START": (0, 240),
-    "RPDO": (0, 512), "MS": (0, 65535),
+    "RPDO": (0, 512), "MS": (0, 65535), "DAYS": (0, 65535),
 }
 
 
@@ -31,8 +31,9 @@ def beyond(kind, word):
 
 def not_allowed(kind, word, first):
     """That a number isn't one of those that are allowed, or None."""
-    if kind == "SYNC_US" and 0 < int(word) < LEAST_SYNC:
-        return f"SYNC_US is 0 or at least {LEAST_SYNC:,} microseconds, not {int(word)}"
+    is_period = kind == "SYNC_US" or kind == "US" and first == "time-period"
+    if is_period and 0 < int(word) < LEAST_PERIOD:
+        return f"{kind} is 0 or at least {LEAST_PERIOD:,} microseconds, not {int(word)}"
     if kind == "COUNTER" and int(word) == 1:
         return "COUNTER is 0 or 2 to 240, not 1"
     if kind == "COB" and int(word, 16) > 0x7FF:
@@ -50,6 +51,6 @@ def out_of_place(command, project):
     """That a command is none of this version, or its lines are no EDS; or None."""
     if command.name == b"need" and project.version == 1:
         return "mandatory nodes are of version 2: the command `version 2` comes first"
-    if command.name in (b"receive", b"unreceive") and project.version < 3:
+    if command.name in (b"receive", b"unreceive", b"time-period") and project.version < 3:
         return f"{command.name.decode()} is of version 3: the command `version 3` comes first"
     return script.why_no_eds(b"".join(line + b"\n" for line in command.block or ())) if command.name == b"eds" else None

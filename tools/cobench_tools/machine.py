@@ -10,7 +10,7 @@ from .pdo_writes import values_of
 from .wiring import RPDO
 
 MOST_SHEETS, MOST_ENTRIES, MOST_NODES = 64, 4096, 127
-SYNC_PRODUCER = 1 << 30
+SYNC_PRODUCER = TIME_PRODUCER = 1 << 30
 LEAST_SYNC, LONGEST_SYNC = 1_000, 10_000_000
 
 
@@ -134,6 +134,8 @@ class Machine:
         if not sync:
             lines.append(comment("no file says how often SYNC comes: the second number below, in microseconds"))
         lines.append(f"manager {manager} {sync} 0 500")
+        lines += [comment(f"{file.name} sends TIME (1012h), and no file says how often: time-period US DAYS, of version 3")
+                  for file in self.files if (file.node.number_at(0x1012, 0, 0x07) or 0) & TIME_PRODUCER]
         counters = {file.node.number_at(0x1019, 0, 0x05) for file in self.files} - {None, 0}
         if len(counters) == 1 and 2 <= min(counters) <= 240:
             lines.append(f"sync-counter {min(counters)}")

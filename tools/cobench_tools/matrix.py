@@ -1,6 +1,7 @@
 """The tables of a network for the papers of its machine: nodes, messages, signals, parameters, heartbeats."""
 from . import pdo_values, safe_text, tool, values
 from .device import BITS, SIGNED, VISIBLE_STRING, object_name
+from .meaning import day_text
 from .tables import Table
 
 NONE = "-"
@@ -49,6 +50,7 @@ def heading(title, network):
              f"manager {manager}", f"SYNC each {sync:,} us{counted}" if sync else "no SYNC",
              f"SDO timeout {timeout} ms"]
     words += [f"heartbeat of the manager each {heartbeat} ms"] if heartbeat else []
+    words += [f"TIME each {project.time[0]:,} us, from {day_text(project.time[1])} on"] if project.time else []
     return [title, "; ".join(words)]
 
 

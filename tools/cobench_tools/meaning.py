@@ -3,14 +3,16 @@
 Which PDO a frame is, and what it carries, is read as the network itself has it: from the defaults of a
 node's EDS, and from the writes by which the manager configures it in the trace.
 """
+import datetime
 from collections import namedtuple
 
 from . import device, receiver_names
 from .logs.rows import NAMES
 from .trace import Foreign, Note
 
-NMT, SYNC, EMCY, PDO, SDO, HEARTBEAT, OTHER, NOTE = "NMT", "SYNC", "EMCY", "PDO", "SDO", "heartbeat", "other", "note"
-KINDS = (NMT, SYNC, EMCY, PDO, SDO, HEARTBEAT, OTHER)
+NMT, SYNC, EMCY, PDO, SDO, HEARTBEAT, TIME, OTHER, NOTE = ("NMT", "SYNC", "EMCY", "PDO", "SDO", "heartbeat", "TIME", "other",
+                                                           "note")
+KINDS = (NMT, SYNC, EMCY, PDO, SDO, HEARTBEAT, TIME, OTHER)
 
 SERVICES = {1: "start", 2: "stop", 128: "enter pre-operational", 129: "reset node", 130: "reset communication"}
 STATES = {0: "boot-up", 4: "stopped", 5: "operational", 127: "pre-operational"}
@@ -28,6 +30,7 @@ ABORTS = {
     0x08000022: "the device's state prevents it", 0x08000023: "no object dictionary", 0x08000024: "no data available",
 }
 MOST_MAPPED = 64
+FIRST_DAY = datetime.date(1984, 1, 1)
 PREDEFINED = {0x180: "TPDO 1", 0x280: "TPDO 2", 0x380: "TPDO 3", 0x480: "TPDO 4",
               0x200: "RPDO 1", 0x300: "RPDO 2", 0x400: "RPDO 3", 0x500: "RPDO 4"}
 
@@ -35,7 +38,7 @@ PREDEFINED = {0x180: "TPDO 1", 0x280: "TPDO 2", 0x380: "TPDO 3", 0x480: "TPDO 4"
 class Meaning:
     """What a line of a trace says.
 
-    kind     NMT, SYNC, EMCY, PDO, SDO, heartbeat (boot-ups too), note, or other of what isn't of the network
+    kind     NMT, SYNC, EMCY, PDO, SDO, heartbeat (boot-ups too), TIME, note, or other of what isn't of the network
     sender   the number of the node that sends it, None where that isn't known
     node     the number of the node that it is of, None where it is of none
     subject  the message, PDO or object that it is of
@@ -81,6 +84,23 @@ def values_text(parts, data):
         texts.append(f"{label}={device.value_at(data, start, bits, kind)}" if bits else label)
         start += bits
     return " ".join(texts)
+
+
+def moment_text(data):
+    """The moment that a time stamp says (CiA 301, TIME_OF_DAY): its day, and the time in ms from midnight on."""
+    milliseconds = int.from_bytes(data[:4], "little") & 0x0FFFFFFF
+    return f"{day_text(int.from_bytes(data[4:6], 'little'))} {clock_text(milliseconds)}"
+
+
+def day_text(days):
+    """The date of a day, counted from 1984-01-01 on."""
+    return (FIRST_DAY + datetime.timedelta(days)).isoformat()
+
+
+def clock_text(milliseconds):
+    """A time of the day; one beyond midnight goes on to count hours."""
+    seconds, rest = divmod(milliseconds, 1000)
+    return f"{seconds // 3600:02}:{seconds // 60 % 60:02}:{seconds % 60:02}.{rest:03}"
 
 
 def is_identifier(key):
@@ -228,6 +248,8 @@ class Network:
             return self.command(*data)
         if identifier == 0x80:
             return Meaning(SYNC, self.manager, None, "", f"SYNC {data[0]}" if data else "SYNC")
+        if identifier == 0x100 and len(data) == 6 and not self.owners.get(identifier):
+            return Meaning(TIME, self.manager, None, "", f"TIME {moment_text(data)}")
         if 0x701 <= identifier <= 0x77F and len(data) == 1:
             return self.heartbeat(node, data[0])
         if 0x581 <= identifier <= 0x67F and node and len(data) == 8:

@@ -6,7 +6,7 @@ from .script import MOST_KNOWN, shown_words_in
 
 # By command the words that say which part it makes, each with how it is read.
 PARTS = {
-    "manager": (), "sync-counter": (), "horizon": (), "eds": (str,), "node": (decimal,),
+    "manager": (), "time-period": (), "sync-counter": (), "horizon": (), "eds": (str,), "node": (decimal,),
     "param": (decimal, hexadecimal, hexadecimal), "event": (decimal,), "message": (str,), "start": (str,),
     "source": (str, decimal), "sink": (str, decimal, decimal), "receive": (str, decimal),
 }

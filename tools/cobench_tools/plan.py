@@ -19,7 +19,7 @@ def item(key, bits):
 
 
 # What no PDO may have as its identifier.
-SERVICES = ((0x000, 0x07F, "NMT"), (0x080, 0x0FF, "SYNC or EMCY"), (0x101, 0x180, "safety objects"), (0x581, 0x5FF, "SDO"),
+SERVICES = ((0x000, 0x07F, "NMT"), (0x080, 0x0FF, "SYNC or EMCY"), (0x100, 0x100, "TIME"), (0x101, 0x180, "safety objects"), (0x581, 0x5FF, "SDO"),
             (0x601, 0x67F, "SDO"), (0x6E0, 0x6FF, "CiA 301"), (0x701, 0x7FF, "heartbeats"))
 
 
@@ -293,8 +293,8 @@ class Plan:
             return [Cause(f"{wanted:03X}h is the identifier of message {other}", other=other)]
         if wanted >= LEAST_IDENTIFIER and not is_restricted(wanted):
             return []
-        service = next((f"belongs to {service}" for low, high, service in SERVICES if low <= wanted <= high), None)
-        return [Cause(f"{wanted:03X}h {service or 'is below 181h, where PDOs begin'}")]
+        service = next(service for low, high, service in SERVICES if low <= wanted <= high)
+        return [Cause(f"{wanted:03X}h belongs to {service}")]
 
     def _fixed_words(self, planned):
         """That the TPDO of a message has a fixed identifier, in words."""

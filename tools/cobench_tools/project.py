@@ -46,11 +46,15 @@ class Event:
 
 
 class Project:
-    """What the accepted edits so far have made."""
+    """What the accepted edits so far have made.
+
+    time  the microseconds from TIME to TIME, and the day on which the run begins; None without TIME
+    """
 
     def __init__(self) -> None:
         self.bitrate, self.horizon, self.manager = 1000, 1_000_000, (127, 0, 0, 500)
         self.version, self.sync_counter = 1, 0
+        self.time: Optional[Tuple[int, int]] = None
         self.mandatory: Set[int] = set()
         self.texts: Dict[str, List[bytes]] = {}
         self.nodes: Dict[int, Tuple[str, str]] = {}
@@ -107,6 +111,10 @@ class Project:
 
     def _version(self, command: Command, words: List[str]) -> None:
         self.version = decimal(words[0])
+
+    def _time_period(self, command: Command, words: List[str]) -> None:
+        period, day = map(decimal, words)
+        self.time = (period, day) if period else None
 
     def _sync_counter(self, command: Command, words: List[str]) -> None:
         self.sync_counter = decimal(words[0])

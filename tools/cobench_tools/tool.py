@@ -133,10 +133,15 @@ def shown(line: bytes) -> str:
 
 
 def put(text: Union[str, bytes]) -> None:
-    """Writes all of a command's output at once: bytes as they are, texts for reading. Whoever reads it may stop reading."""
+    """Writes all of a command's output at once: bytes as they are, texts for reading. Whoever reads it may stop reading.
+
+    Where there is nothing to tell, nothing is written, however Python buffers its output.
+    """
     data = text if isinstance(text, bytes) else safe_text.lines(text).encode()
     if sys.stdout is None:
         raise Fault("the standard output is closed")
+    if not data:
+        return
     try:
         sys.stdout.buffer.write(data)
         sys.stdout.buffer.flush()

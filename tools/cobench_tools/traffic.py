@@ -6,9 +6,9 @@ from .trace import has_stuff_bits
 from .wire_bits import exact_bits
 from .wiring import TPDO
 
-SYNC, EMCY, SDO, HEARTBEAT = 0x080, 0x080, 0x580, 0x700
+SYNC, EMCY, TIME, SDO, HEARTBEAT = 0x080, 0x080, 0x100, 0x580, 0x700
 EVENT_TYPES = 254, 255
-LONGEST = 8     # bytes
+LONGEST, STAMP = 8, 6     # bytes: of a frame at most, of TIME
 UNSIGNED16 = 0x06
 STATES = b"\x04", b"\x05", b"\x7f"     # of a node, in its heartbeat
 
@@ -91,7 +91,7 @@ class Traffic:
 
 def traffic_of(network, assumed=None, foreign=()):
     """All frames by priority; `assumed` are the microseconds for those without a bound, `foreign` those of others."""
-    found = [sync(network)] + heartbeats(network) + [pdo(network, tpdo) for tpdo in network.tpdos]
+    found = [sync(network), time_stamp(network)] + heartbeats(network) + [pdo(network, tpdo) for tpdo in network.tpdos]
     found = [each for each in found if each]
     for each in found if has_stuff_bits(network.project) else ():
         each.known = known_bytes(network, each)
@@ -104,7 +104,7 @@ def traffic_of(network, assumed=None, foreign=()):
 
 def known_bytes(network, each):
     """All bytes that SYNC and heartbeats can have, none of other frames."""
-    if each.tpdo:
+    if each.tpdo or each.identifier == TIME:
         return []
     return STATES if each.identifier != SYNC else [bytes([count]) for count in range(1, network.project.sync_counter + 1)] or [b""]
 
@@ -135,6 +135,14 @@ def sync(network):
     manager, period, _, _ = network.project.manager
     size = 1 if network.project.sync_counter else 0
     return Traffic(SYNC, ("manager",), "SYNC", manager, size, period, f"each {time_text(period)}") if period else None
+
+
+def time_stamp(network):
+    """TIME, or None where the manager sends none."""
+    if not network.project.time:
+        return None
+    period, _ = network.project.time
+    return Traffic(TIME, ("time-period",), "TIME", network.project.manager[0], STAMP, period, f"each {time_text(period)}")
 
 
 def heartbeats(network):

@@ -1,12 +1,12 @@
 """The longest time that the frames of each identifier waited in a trace, as far as the trace shows it.
 
-A trace tells when a frame was there whole. When it began to wait is known of SYNC and heartbeats, which come by the
+A trace tells when a frame was there whole. When it began to wait is known of SYNC, TIME and heartbeats, which come by the
 clock, and of PDOs that SYNC sends; of one that is sent when a value changes it is taken to be the last moment at which
 that can have been, so that no wait is told that wasn't one. Left out is what follows, while the bus is busy, on frames
 of boots, NMT commands and emergencies, which no bound counts.
 """
 from . import values
-from .traffic import SYNC, UNSIGNED16
+from .traffic import SYNC, TIME, UNSIGNED16
 from .trace import Note
 from .wiring import RPDO
 
@@ -104,7 +104,7 @@ class Waits:
 
     def _since(self, traffic, start):
         """Since when a frame that starts there has waited, at the least; None where that isn't known."""
-        if traffic.identifier == SYNC and traffic.tpdo is None:
+        if traffic.identifier in (SYNC, TIME) and traffic.tpdo is None:
             return start // traffic.period * traffic.period
         if traffic.tpdo is None:
             return self.clocks[traffic.sender].last(start)

@@ -8,9 +8,9 @@ KEYS = ("DataType", "ObjectType", "AccessType", "PDOMapping", "DefaultValue", "L
 SECTIONS = ("1000", "1001", "1016", "1016Value", "1017", "1018sub1", "1019", "1400sub1", "1600", "1800sub1", "1A00", "1A00Value",
             "2000", "2000sub0", "2000sub1", "2000SUB01", "2000Value", "2000Name", "DummyUsage", "DeviceComissioning", "FileInfo", "x")
 TYPES = ("1", "2", "3", "4", "5", "6", "7", "8", "9", "0xA", "0xF", "0x15", "0x1B", "", "x")
-COMMANDS = ("bitrate", "horizon", "manager", "version", "sync-counter", "eds", "drop-eds", "node", "need", "drop-node", "param",
-            "unparam", "message", "start", "drop-message", "source", "unsource", "sink", "unsink", "event", "drop-event", "dcf",
-            "cdcf", "diag", "trace", "project", "help", "#", "<", "DataType=5", "[1017]")
+COMMANDS = ("bitrate", "horizon", "manager", "version", "time-period", "sync-counter", "eds", "drop-eds", "node", "need", "drop-node", "param",
+            "unparam", "message", "start", "drop-message", "source", "unsource", "sink", "unsink", "receive",
+            "unreceive", "event", "drop-event", "dcf", "cdcf", "diag", "trace", "project", "help", "#", "<", "DataType=5", "[1017]")
 WORDS = ("1", "2", "5", "127", "0", "1017", "2000", "6000", "1A00", "d", "e", "pump", "m", "n", "mandatory", "set", "power", "nmt",
          "on", "off", "<d.eds", "0x10", "-3", "255", "1000", "#", "x-1", "10000001")
 

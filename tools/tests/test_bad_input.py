@@ -173,9 +173,11 @@ def test_a_full_disk_is_told():
     if not os.path.exists("/dev/full"):
         raise Skipped("there is no /dev/full")
     for name, words in good_calls().items():
-        with open("/dev/full", "wb") as full:
-            done = run_alone(*words, stdout=full, stderr=subprocess.PIPE)
-        assert done.returncode == 2 and done.stderr == b"cobtool: the standard output: No space left on device\n", (name, done)
+        expected = (0, b"") if name in SILENT else (2, b"cobtool: the standard output: No space left on device\n")
+        for settings in ({}, {"PYTHONUNBUFFERED": "1"}):
+            with open("/dev/full", "wb") as full:
+                done = run_alone(*words, stdout=full, stderr=subprocess.PIPE, env={**os.environ, **settings})
+            assert (done.returncode, done.stderr) == expected, (name, settings, done)
 
 
 def in_shell(command, words):

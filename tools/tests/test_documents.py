@@ -233,3 +233,15 @@ def test_each_crate_has_a_page_that_says_what_it_stands_on():
         assert crate == "network_laws" or said["Used by"] == [each for each in crates if crate in used[each]], crate
         for name in re.findall(r"`((?:src|specs)/[^`]+)`", text):
             assert os.path.exists(os.path.join(ROOT, "crates", crate, name)), (crate, name)
+
+
+def test_the_guide_for_a_rule_names_what_is_there():
+    text = re.search(r"(?s)\n## How a rule is added\n(.*?)\n## ", page("docs", "architecture.md")).group(1)
+    files = {name for folder in ("tools/cobench_tools", "reference/rules") for _, _, names in os.walk(os.path.join(ROOT, folder))
+             for name in names}
+    for name in re.findall(r"`(\w+\.py)`", text):
+        assert name in files, name
+    crates = {name for row in re.findall(r"(?m)^\| (`[^|]*) \|", text) for name in re.findall(r"`(\w+)`", row)} - {"tools", "editors"}
+    assert len(crates) > 12 and crates <= set(os.listdir(os.path.join(ROOT, "crates"))), crates
+    law, crate = "no_periodic_message_is_forgotten", "nmt_boot"
+    assert law in text and f"fn {law}()" in sources(crate)

@@ -17,6 +17,7 @@ def random_project(chance):
     sheets = chance.sample(SHEETS, chance.randint(1, 4))
     lines = [f"version {version}"] if version > 1 else []
     lines += [f"bitrate {chance.choice([250, 1000])}", f"horizon {chance.choice([1000, 20000])}", f"manager {manager} {chance.choice([0, 1000])} 0 500"]
+    lines += [f"time-period {chance.choice([1000, 2000])} {chance.choice([0, 7])}"] if version > 2 and chance.random() < .4 else []
     lines += [f"sync-counter {counter}"] if counter else []
     for sheet in sorted(sheets):
         block = [f"[{chance.choice([1017, 2000])}]", "DataType=6"][:chance.randint(1, 2)]

@@ -92,4 +92,4 @@ def test_the_plain_program_has_a_module_for_each_page_of_the_rules():
         text = file(REFERENCE, "rules", name + ".py").decode()
         found = re.findall(r"docs/[a-z_/]+\.md", text.split('"""')[1])
         assert found and all(os.path.exists(os.path.join(ROOT, page)) for page in found), name
-        assert max(map(len, text.splitlines())) <= 140, name
+        assert max(map(len, text.splitlines())) <= 120, name

@@ -20,13 +20,13 @@ import generators  # noqa: E402
 
 # A right word of each kind, those at its limits and beyond, and words of other forms.
 WORDS = {
-    "VERSION": ("1", "2", "3", "0", "4"), "RATE": ("500", "10", "0500", "9", "1000", "1001"), "US": ("0", "10000000", "10000001", "0000000005"),
+    "VERSION": ("1", "2", "3", "0", "4"), "RATE": ("500", "10", "0500", "9", "1000", "1001"), "US": ("0", "10000000", "10000001", "0000000005", "999", "1000"),
     "ID": ("5", "1", "127", "128", "0"), "SYNC_US": ("0", "1000", "999", "1", "10000000", "10000001"), "HB_MS": ("0", "65535", "65536"),
     "TIMEOUT_MS": ("1", "0", "65535", "65536"), "COUNTER": ("0", "1", "2", "240", "241"), "NAME": ("d", "x" * 32, "x" * 33, "a-b"),
     "EDS": ("d", "none"), "MESSAGE": ("m", "none"), "NEED": ("mandatory", "optional", "Optional"), "TPDO": ("1", "512", "513", "0"),
     "TYPE": ("0", "255", "256"), "INHIBIT": ("0", "65535", "65536"), "EVENT": ("0", "65535", "65536"),
     "COB": ("0", "7FF", "800", "7ff", "0185", "FFF"), "START": ("0", "240", "241"), "POS": ("1", "64", "65", "0"),
-    "RPDO": ("0", "1", "512", "513"), "MS": ("0", "65535", "65536"),
+    "RPDO": ("0", "1", "512", "513"), "MS": ("0", "65535", "65536"), "DAYS": ("0", "65535", "65536"),
     "INDEX": ("2000", "13FF", "1400", "1bff", "1C00", "0x17", "1017h", "12345"), "SUB": ("0", "FF", "100", "g"),
     "TEXT": ("1", "a b", "x" * 4000, "x" * 4001), "K": ("1", "10000", "10001", "0"), "TIME": ("0", "10000000", "10000001"),
     "CMD": ("1", "2", "128", "129", "130", "3", "0"), "TO": ("0", "5", "128"), "ON_OFF": ("on", "off", "ON"), "LINES": ("0", "65537"),
@@ -63,7 +63,7 @@ def text_of_all_forms():
 def text_of_version_3():
     """The same in version 3, of the commands that are other there."""
     text = text_of_all_forms()
-    lines = re.findall(rb"(?m)^(?:need|message|drop-message|receive|unreceive|param) .*\n", text)
+    lines = re.findall(rb"(?m)^(?:need|message|drop-message|receive|unreceive|param|time-period) .*\n", text)
     return b"version 3\n" + SHEET + b"node 5 pump d\nmessage m 5 1 1 0 0 0\nreceive m 5 0 0\n" + b"".join(lines)
 
 

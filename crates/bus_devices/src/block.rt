@@ -13,7 +13,7 @@ ghost use Rattle.std.specs.List.{flat_map};
 ghost use Rattle.device_agenda.specs.Agenda.{at_instant};
 ghost use Rattle.device_agenda.specs.LowBytes.{AreDeafBeyond, IsDeafBeyond};
 
-use crate::outlook::{Outlook, keep_lower};
+use crate::outlook::{Outlook, keep_winner};
 use base::earlier;
 use can_frame::Contender;
 use co_dict::Dict;
@@ -166,7 +166,7 @@ pub(crate) fn winner_of(devices: &[ScheduledDevice]) -> Option<Contender>
 {
     let mut best = None;
     for device in devices {
-        keep_lower(&mut best, &device.contender());
+        keep_winner(&mut best, &device.contender());
     }
     best
 }
@@ -179,7 +179,7 @@ pub(crate) fn best_of_each(each: &[Outlook], count: usize) -> Option<Contender>
 {
     let mut best = None;
     for place in 0..count {
-        keep_lower(&mut best, &each[place].best);
+        keep_winner(&mut best, &each[place].best);
     }
     best
 }

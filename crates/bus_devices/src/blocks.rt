@@ -12,7 +12,7 @@ ghost use Rattle.co_device.specs.Device.{Device};
 ghost use Rattle.device_agenda.specs.Agenda.{at_instant};
 
 use crate::block::{BLOCK, Block, best_of_each, low_bytes_of, outlook_of, place_by_each, run_each};
-use crate::outlook::keep_lower;
+use crate::outlook::keep_winner;
 use can_frame::Contender;
 use device_agenda::{Delivery, ScheduledDevice};
 use device_objects::Shapes;
@@ -139,7 +139,7 @@ pub(crate) fn run_blocks<P: Shapes>(
 }
 
 /// Works out anew which frames win, after the frames have changed that wait at the device of a place. Walks the block.
-fn plan_best_of(block: &mut Block, devices: &[ScheduledDevice], i: usize)
+fn renew_best_of(block: &mut Block, devices: &[ScheduledDevice], i: usize)
     requires was { WasKnown (IsBlockOf block.old) i devices.now }
     requires few { length devices.now ≤ 8 }
     ensures block { IsBlockOf block.new devices.now }
@@ -150,7 +150,7 @@ fn plan_best_of(block: &mut Block, devices: &[ScheduledDevice], i: usize)
 }
 
 /// The same of the block of the device at a place among all.
-pub(crate) fn plan_best(blocks: &mut [Block], devices: &[ScheduledDevice], i: usize)
+pub(crate) fn renew_best(blocks: &mut [Block], devices: &[ScheduledDevice], i: usize)
     requires { WasKnown (AreBlocksOf blocks.old) i devices.now }
     ensures blocks { AreBlocksOf blocks.new devices.now }
     ensures alarms { alarms_of blocks.new ≡ alarms_of blocks.old }
@@ -158,7 +158,7 @@ pub(crate) fn plan_best(blocks: &mut [Block], devices: &[ScheduledDevice], i: us
     let place = i / BLOCK;
     let (_before, rest) = devices.split_at(place * BLOCK);
     let (block, _behind) = rest.split_at(first_block(rest.len()));
-    plan_best_of(&mut blocks[place], block, i % BLOCK);
+    renew_best_of(&mut blocks[place], block, i % BLOCK);
 }
 
 /// The least frame that waits at the devices of all blocks. Walks the blocks.
@@ -168,7 +168,7 @@ pub(crate) fn best_of(blocks: &[Block]) -> Option<Contender>
 {
     let mut best = None;
     for block in blocks {
-        keep_lower(&mut best, &block.outlook.best);
+        keep_winner(&mut best, &block.outlook.best);
     }
     best
 }

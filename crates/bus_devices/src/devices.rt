@@ -16,7 +16,7 @@ ghost use Rattle.device_agenda.specs.Agenda.{at_instant};
 
 use crate::apart::Apart;
 use crate::block::{Block, first_due, place_of_sender, values_of, winner_of};
-use crate::blocks::{best_of, plan_best, sender_place};
+use crate::blocks::{best_of, renew_best, sender_place};
 use crate::known::{know, run_known};
 use crate::lists::{copy_all, differ_at, tell_apart};
 use crate::outlook::Outlook;
@@ -220,7 +220,7 @@ impl Devices {
         self.known = false;
         let sent = self.devices[i].send(place)?;
         if known {
-            plan_best(self.blocks.as_mut_slice(), &self.devices, i);
+            renew_best(self.blocks.as_mut_slice(), &self.devices, i);
             self.all.best = best_of(&self.blocks);
             self.known = true;
         }

@@ -64,7 +64,7 @@ fn looks_differ_at(devices: &[ScheduledDevice], others: &[ScheduledDevice], plac
 
 /// How closely two devices are looked at, ahead of a comparison by value.
 #[derive(Clone, Copy)]
-enum Look {
+enum Closeness {
     /// At what is told in constant time: the fingerprints of their values, their states, when they are due.
     Glance,
     /// At all that a quick look sees, their PDOs too.
@@ -73,7 +73,7 @@ enum Look {
 
 /// Whether a look tells the devices of a place apart.
 fn look_differs(
-    look: Look,
+    look: Closeness,
     devices: &[ScheduledDevice],
     others: &[ScheduledDevice],
     place: usize,
@@ -81,14 +81,18 @@ fn look_differs(
     ensures { IsTrue result → slice_get devices.now place ≡ slice_get others.now place → ⊥ }
 {
     match look {
-        Look::Glance => looks_differ_at(devices, others, place),
-        Look::All => differ_at(devices, others, place),
+        Closeness::Glance => looks_differ_at(devices, others, place),
+        Closeness::All => differ_at(devices, others, place),
     }
 }
 
 /// The first place at which a look tells the devices of two lists apart, if there is one. Looks at each of them up to
 /// that place.
-fn first_apart(look: Look, devices: &[ScheduledDevice], others: &[ScheduledDevice]) -> Option<usize>
+fn first_apart(
+    look: Closeness,
+    devices: &[ScheduledDevice],
+    others: &[ScheduledDevice],
+) -> Option<usize>
     ensures { IfSome result (λ place. slice_get devices.now place ≡ slice_get others.now place → ⊥) }
 {
     for place in 0..devices.len() {
@@ -103,9 +107,9 @@ fn first_apart(look: Look, devices: &[ScheduledDevice], others: &[ScheduledDevic
 fn place_apart(devices: &[ScheduledDevice], others: &[ScheduledDevice]) -> Option<usize>
     ensures { IfSome result (λ place. slice_get devices.now place ≡ slice_get others.now place → ⊥) }
 {
-    match first_apart(Look::Glance, devices, others) {
+    match first_apart(Closeness::Glance, devices, others) {
         Some(place) => Some(place),
-        None => first_apart(Look::All, devices, others),
+        None => first_apart(Closeness::All, devices, others),
     }
 }
 

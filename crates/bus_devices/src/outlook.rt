@@ -19,7 +19,7 @@ pub(crate) struct Outlook {
 
 /// Leaves the one that wins of two contenders, as `Contender::lower`: mostly the other isn't there.
 #[tactic(auto, using(crate::proofs::SenderLemmas::lower_none))]
-pub(crate) fn keep_lower(best: &mut Option<Contender>, other: &Option<Contender>)
+pub(crate) fn keep_winner(best: &mut Option<Contender>, other: &Option<Contender>)
     ensures { best.new ≡ lower_of best.old other.now }
 {
     if let Some(other) = other {
@@ -74,6 +74,6 @@ impl Outlook {
             → IsBestOf self.new (ds ++ es) }
     {
         self.alarm = self.alarm.and(other.alarm);
-        keep_lower(&mut self.best, &other.best);
+        keep_winner(&mut self.best, &other.best);
     }
 }

@@ -17,8 +17,10 @@ mod telling;
 mod windows;
 
 pub use bus_state::BusState;
+pub use device_objects::Shapes;
 pub use line::Line;
 pub use line_texts::text;
 pub use lines::Lines;
+pub use node_boot::Boots;
 pub use parts::Parts;
 pub use slot::Slot;

@@ -6,7 +6,7 @@ ghost use Rattle.image_parts.specs.Images.{IsImage};
 use anyhow::Result;
 use can_bus::{Line, Parts, text};
 use checks_layout::parts_of;
-use co_depend::ProjectParts;
+use co_depend::RecordingParts;
 use co_project::Project;
 use co_segments::Store;
 use image_parts::END;
@@ -41,7 +41,7 @@ fn show_count<W: Write>(out: &mut W, what: &str, count: u64, most: u64) -> Resul
 fn trace_parts(
     alloc: Global,
     store: &mut Store,
-    parts: &mut ProjectParts,
+    parts: &mut RecordingParts,
     horizon: u32,
     meter: &mut Meter,
 ) -> Result<Vec<Line>, AllocError>

@@ -5,7 +5,7 @@ ghost use Rattle.co_depend.specs.Supply.{seen_of};
 ghost use Rattle.image_parts.specs.Images.{IsImage};
 ghost use Rattle.network_image.specs.Image.{image_of};
 
-use co_depend::ProjectParts;
+use co_depend::RecordingParts;
 use co_project::Project;
 use kept_parts::KeptParts;
 use kept_values::Meter;
@@ -13,7 +13,7 @@ use std::alloc::{AllocError, Global};
 
 /// The parts of a project's network, made as a workbench makes those of a new project, of which nothing was asked
 /// yet. Want of memory is the only error.
-pub fn parts_of(alloc: Global, project: &Project) -> Result<ProjectParts, AllocError>
+pub fn parts_of(alloc: Global, project: &Project) -> Result<RecordingParts, AllocError>
     ensures seen { IfOk result (λ parts. seen_of parts ≡ record { image = image_of project.now; asked = [] }) }
     ensures asks { IfOk result (λ parts. parts.asks ≡ 0) }
 
@@ -25,6 +25,6 @@ pub fn parts_of(alloc: Global, project: &Project) -> Result<ProjectParts, AllocE
     let mut meter = Meter::new();
     kept.refresh_all(project, &mut meter)?;
     let network = kept.network(project)?;
-    let parts = ProjectParts::of(alloc, network);
+    let parts = RecordingParts::of(alloc, network);
     Ok(parts)
 }

@@ -2,6 +2,10 @@
 #![tactic(auto)]
 
 mod pointer;
-mod project_parts;
+mod recording_parts;
 
-pub use project_parts::ProjectParts;
+pub use co_project::Project as Inputs;
+pub use kept_parts::KeptParts as Image;
+pub use kept_values::{Makes, Memo, Meter, Offers};
+pub use project_parts::Part;
+pub use recording_parts::RecordingParts;

@@ -12,4 +12,4 @@ mod rpdos;
 mod timers;
 mod writes;
 
-pub use device::Device;
+pub use device::{Device, Device as DeviceState};

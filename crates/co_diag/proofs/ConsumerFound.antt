@@ -17,12 +17,14 @@ use Rattle.project_plan.specs.Values.{Numbers, number_after, values_after}
 use Rattle.diag_lines.specs.declared.code.Code.TheVariants.{UnfitConsumer}
 use Rattle.diag_lines.specs.declared.diag.Diag.{Diag}
 use Rattle.diag_lines.specs.declared.subject.Subject.TheVariants as of
-use Rattle.co_diag.specs.declared.consumer.HeartbeatConsumer.{HeartbeatConsumer}
+use Rattle.diag_nodes.specs.declared.consumer.HeartbeatConsumer.{HeartbeatConsumer}
 use Rattle.co_diag.specs.Holds.{HasUnfitConsumer, HoldsOf, Holds, producer_time}
-use Rattle.co_diag.specs.Found.{consumer_diagnostic, consumers, diagnostic, unfit_consumers}
-use Rattle.co_diag.specs.Rules.{consumer_at, consumer_of, consumers_in, is_unfit, numbers_of, with_value}
+use Rattle.co_diag.specs.Found.{consumer_diagnostic, unfit_consumers}
+use Rattle.diag_nodes.specs.Found.{consumers, diagnostic}
+use Rattle.diag_nodes.specs.Rules.{consumer_at, consumer_of, consumers_in, numbers_of, with_value}
+use Rattle.co_diag.specs.Rules.{is_unfit}
 use Rattle.co_diag.proofs.ListLemmas.{Contains-flat_map, from_flat_map}
-use Rattle.co_diag.proofs.MemberLemmas.{member_found, member_listed, unsigned_there}
+use Rattle.diag_nodes.proofs.MemberLemmas.{member_found, member_listed, unsigned_there}
 
 -- ---- what is found holds
 

@@ -9,7 +9,8 @@ use Rattle.cia301.specs.CobIds.{is_restricted}
 use Rattle.diag_lines.specs.declared.code.Code.TheVariants.{SharedIdentifier}
 use Rattle.diag_lines.specs.declared.subject.Subject.TheVariants as of
 use Rattle.co_diag.specs.Counts.{count_to_two, one_more, shared_among}
-use Rattle.co_diag.specs.Found.{diagnostic, shared_in}
+use Rattle.diag_nodes.specs.Found.{diagnostic}
+use Rattle.co_diag.specs.Found.{shared_in}
 
 -- none is had at first
 pub none_had : (count q : ℕ) → ◌≡◌ {A = ℕ} (slice_index_or (replicate count 0) q 0) 0

@@ -11,11 +11,12 @@ use Rattle.diag_lines.specs.declared.code.Code.TheVariants.{OtherCounter}
 use Rattle.diag_lines.specs.declared.diag.Diag.{Diag}
 use Rattle.diag_lines.specs.declared.subject.Subject.TheVariants as of
 use Rattle.diag_lines.proofs.ListLemmas.{Contains-nil, Contains-first, Contains-cases}
-use Rattle.co_diag.specs.Found.{counter_diagnostic, counters, diagnostic, other_counters}
+use Rattle.co_diag.specs.Found.{counter_diagnostic, other_counters}
+use Rattle.diag_nodes.specs.Found.{counters, diagnostic}
 use Rattle.co_diag.specs.Holds.{HasOtherCounter, HoldsOf, Holds}
-use Rattle.co_diag.specs.Rules.{counter_at, counters_in, numbers_of}
+use Rattle.diag_nodes.specs.Rules.{counter_at, counters_in, numbers_of}
 use Rattle.co_diag.proofs.ListLemmas.{Contains-flat_map, from_flat_map}
-use Rattle.co_diag.proofs.MemberLemmas.{member_found, member_listed}
+use Rattle.diag_nodes.proofs.MemberLemmas.{member_found, member_listed}
 
 -- ---- what is found holds
 

@@ -12,9 +12,9 @@ use Rattle.diag_lines.specs.declared.code.Code.TheVariants.{Unreadable}
 use Rattle.diag_lines.specs.declared.diag.Diag.{Diag}
 use Rattle.diag_lines.specs.declared.subject.Subject.TheVariants as of
 use Rattle.co_diag.specs.Holds.{HasUnreadableDefault, HoldsOf, Holds}
-use Rattle.co_diag.specs.Found.{diagnostic, unreadable_default, unreadable_defaults}
+use Rattle.diag_nodes.specs.Found.{diagnostic, unreadable_default, unreadable_defaults}
 use Rattle.co_diag.proofs.ListLemmas.{Contains-flat_map, from_flat_map}
-use Rattle.co_diag.proofs.MemberLemmas.{described_there, member_found, member_listed}
+use Rattle.diag_nodes.proofs.MemberLemmas.{described_there, member_found, member_listed}
 
 -- ---- what is found holds
 

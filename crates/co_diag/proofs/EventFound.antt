@@ -25,11 +25,12 @@ use Rattle.co_project.specs.Tables.{node_at, text_at}
 use Rattle.project_plan.specs.Network.{Member, member_at, with_sections}
 use Rattle.diag_lines.specs.declared.diag.Diag.{Diag}
 use Rattle.diag_lines.specs.declared.subject.Subject.TheVariants as of
-use Rattle.co_diag.specs.Faults.{parameter_code}
+use Rattle.diag_nodes.specs.Codes.{parameter_code}
 use Rattle.co_diag.specs.Holds.{SetsUnfitValue, HoldsOf, Holds}
-use Rattle.co_diag.specs.Found.{diagnostic, set_fault, unfit_event}
-use Rattle.co_diag.specs.Holds.{device_for}
-use Rattle.co_diag.proofs.MemberLemmas.{at_entry, entry_of}
+use Rattle.diag_nodes.specs.Found.{diagnostic}
+use Rattle.co_diag.specs.Found.{set_fault, unfit_event}
+use Rattle.diag_nodes.specs.Devices.{device_for}
+use Rattle.diag_nodes.proofs.MemberLemmas.{at_entry, entry_of}
 
 -- ---- which faults there are
 

@@ -20,7 +20,8 @@ use Rattle.diag_lines.specs.declared.diag.Diag.{Diag}
 use Rattle.diag_lines.specs.Order.{diag_cmp}
 use Rattle.diag_lines.specs.Sets.{IsListOf, sorted_set}
 use Rattle.co_diag.specs.Holds.{HoldsOf, Holds}
-use Rattle.co_diag.specs.Found.{diagnostic, unfit_parameters, unreadable_defaults, unfit_consumers, shared_identifiers}
+use Rattle.diag_nodes.specs.Found.{diagnostic, unreadable_defaults}
+use Rattle.co_diag.specs.Found.{unfit_parameters, unfit_consumers, shared_identifiers}
 use Rattle.co_diag.specs.Found.{message_faults, message_warnings, unfit_event, skipped_lines, other_counters}
 use Rattle.co_diag.specs.Found.{diagnostics_found, diagnostics_of, vendor_findings}
 use Rattle.diag_lines.proofs.OrderLemmas.{diag_total, diag_exact}

@@ -1,5 +1,4 @@
 pub mod ListLemmas
-pub mod MemberLemmas
 pub mod ParameterFound
 pub mod DefaultFound
 pub mod ConsumerFound
@@ -10,13 +9,8 @@ pub mod EventFound
 pub mod TextFound
 pub mod VendorFound
 pub mod FoundLemmas
-pub mod DeviceLemmas
 pub mod WalkLemmas
-pub mod KeptLemmas
 pub mod CountLemmas
 pub mod TimeLemmas
 pub mod SetFound
-pub mod DoubtLemmas
 pub mod MetLemmas
-pub mod SheetLemmas
-pub mod AloneLemmas

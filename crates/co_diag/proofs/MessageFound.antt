@@ -21,10 +21,11 @@ use Rattle.diag_lines.specs.declared.diag.Diag.{Diag}
 use Rattle.diag_lines.specs.declared.subject.Subject.TheVariants as of
 use Rattle.co_diag.specs.Faults.{message_code}
 use Rattle.co_diag.specs.Holds.{HasMessageFault, HasMessage, HoldsOf, Holds, starts_at_none, type_of, waits_for_none}
-use Rattle.co_diag.specs.Found.{diagnostic, message_faults, message_diagnostics, message_warnings, said_if}
+use Rattle.diag_nodes.specs.Found.{diagnostic}
+use Rattle.co_diag.specs.Found.{message_faults, message_diagnostics, message_warnings, said_if}
 use Rattle.diag_lines.proofs.ListLemmas.{Contains-nil, Contains-first, Contains-cases}
 use Rattle.co_diag.proofs.ListLemmas.{Contains-map, from_map, Contains-flat_map, from_flat_map}
-use Rattle.co_diag.proofs.MemberLemmas.{at_entry, entry_of}
+use Rattle.diag_nodes.proofs.MemberLemmas.{at_entry, entry_of}
 
 -- ---- faults
 

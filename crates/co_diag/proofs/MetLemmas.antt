@@ -19,12 +19,15 @@ use Rattle.diag_lines.specs.Order.{diag_cmp}
 use Rattle.diag_lines.specs.Sets.{sorted_set}
 use Rattle.diag_lines.proofs.ListLemmas.{Contains-first, Contains-later, Contains-cases}
 use Rattle.co_diag.specs.Found.{diagnostics_found, diagnostics_of, message_faults, message_warnings, other_counters}
-use Rattle.co_diag.specs.Found.{parameter_diagnostic, shared_identifiers, skipped_lines, unfit_consumers, unfit_event}
-use Rattle.co_diag.specs.Found.{unfit_parameters, unreadable_defaults, vendor_findings}
-use Rattle.co_diag.specs.Sheets.{diagnostics_met, faults_of_node}
+use Rattle.diag_nodes.specs.Found.{parameter_diagnostic}
+use Rattle.co_diag.specs.Found.{shared_identifiers, skipped_lines, unfit_consumers, unfit_event}
+use Rattle.co_diag.specs.Found.{unfit_parameters, vendor_findings}
+use Rattle.diag_nodes.specs.Found.{unreadable_defaults}
+use Rattle.co_diag.specs.Sheets.{diagnostics_met}
+use Rattle.diag_nodes.specs.Sheets.{faults_of_node}
 use Rattle.co_diag.proofs.FoundLemmas.{collected}
 use Rattle.co_diag.proofs.ListLemmas.{Contains-flat_map, from_flat_map}
-use Rattle.co_diag.proofs.MemberLemmas.{entry_of}
+use Rattle.diag_nodes.proofs.MemberLemmas.{entry_of}
 use Rattle.co_diag.proofs.ParameterFound.{Unfit, unfit_by}
 
 -- ---- elements that pass

@@ -21,11 +21,12 @@ use Rattle.co_project.specs.Project.{Content}
 use Rattle.project_plan.specs.Network.{Member, member_at, members}
 use Rattle.diag_lines.specs.declared.diag.Diag.{Diag}
 use Rattle.diag_lines.specs.declared.subject.Subject.TheVariants as of
-use Rattle.co_diag.specs.Faults.{parameter_code}
+use Rattle.diag_nodes.specs.Codes.{parameter_code}
 use Rattle.co_diag.specs.Holds.{HasUnfitParameter, HoldsOf, Holds}
-use Rattle.co_diag.specs.Found.{diagnostic, parameter_diagnostic, unfit_parameters}
+use Rattle.diag_nodes.specs.Found.{diagnostic, parameter_diagnostic}
+use Rattle.co_diag.specs.Found.{unfit_parameters}
 use Rattle.co_diag.proofs.ListLemmas.{Contains-flat_map, from_flat_map}
-use Rattle.co_diag.proofs.MemberLemmas.{entry_of, member_found, member_listed, value_there}
+use Rattle.diag_nodes.proofs.MemberLemmas.{entry_of, member_found, member_listed, value_there}
 
 -- ---- what is found holds
 

@@ -33,8 +33,9 @@ use Rattle.diag_lines.specs.declared.code.Code.TheVariants.{UnplannedTpdo, Unpla
 use Rattle.diag_lines.specs.declared.diag.Diag.{Diag}
 use Rattle.diag_lines.specs.declared.subject.Subject.{Subject}
 use Rattle.diag_lines.specs.declared.subject.Subject.TheVariants as of
-use Rattle.co_diag.specs.Faults.{parameter_code}
-use Rattle.co_diag.specs.Found.{diagnostic, diagnostics_of, IsUnlisted}
+use Rattle.diag_nodes.specs.Codes.{parameter_code}
+use Rattle.diag_nodes.specs.Found.{diagnostic}
+use Rattle.co_diag.specs.Found.{diagnostics_of, IsUnlisted}
 use Rattle.co_diag.specs.Holds.{SetsUnfitValue, HoldsOf, Holds}
 use Rattle.co_diag.proofs.EventFound.{events_hold, events_listed}
 use Rattle.co_diag.proofs.FoundLemmas.{the_list}

@@ -13,8 +13,9 @@ use Rattle.diag_lines.specs.declared.code.Code.TheVariants.{SharedIdentifier}
 use Rattle.diag_lines.specs.declared.diag.Diag.{Diag}
 use Rattle.diag_lines.specs.declared.subject.Subject.TheVariants as of
 use Rattle.co_diag.specs.Holds.{HoldsOf, Holds, IsShared, sends_with, senders_with}
-use Rattle.co_diag.specs.Found.{diagnostic, identifiers, shared_in, shared_identifiers}
-use Rattle.co_diag.specs.Rules.{identifier_at, identifiers_in, numbers_of}
+use Rattle.diag_nodes.specs.Found.{diagnostic, identifiers}
+use Rattle.co_diag.specs.Found.{shared_in, shared_identifiers}
+use Rattle.diag_nodes.specs.Rules.{identifier_at, identifiers_in, numbers_of}
 use Rattle.co_diag.proofs.ListLemmas.{length-filter_flat_map, length-filter_given, member_of_some}
 
 -- ---- as many TPDOs as identifiers

@@ -10,9 +10,10 @@ use Rattle.diag_lines.specs.declared.code.Code.TheVariants.{SkippedLine}
 use Rattle.diag_lines.specs.declared.diag.Diag.{Diag}
 use Rattle.diag_lines.specs.declared.subject.Subject.TheVariants as of
 use Rattle.co_diag.specs.Holds.{SkipsLine, HoldsOf, Holds}
-use Rattle.co_diag.specs.Found.{diagnostic, skipped_lines}
+use Rattle.diag_nodes.specs.Found.{diagnostic}
+use Rattle.co_diag.specs.Found.{skipped_lines}
 use Rattle.co_diag.proofs.ListLemmas.{Contains-map, from_map, Contains-flat_map, from_flat_map}
-use Rattle.co_diag.proofs.MemberLemmas.{at_entry, entry_of}
+use Rattle.diag_nodes.proofs.MemberLemmas.{at_entry, entry_of}
 
 pub lines_hold : (p : Content) (d : Diag) → Contains (flat_map skipped_lines (entries p.texts)) d → Holds p d
 unfolding skipped_lines Holds

@@ -9,13 +9,15 @@ use Rattle.project_plan.specs.Network.{Member, member_at, members}
 use Rattle.project_plan.specs.Values.{number_after}
 use Rattle.diag_lines.specs.declared.diag.Diag.{Diag}
 use Rattle.diag_lines.proofs.ListLemmas.{Contains-nil, Contains-first, Contains-later, Contains-cases}
-use Rattle.co_diag.specs.declared.consumer.HeartbeatConsumer.{HeartbeatConsumer}
-use Rattle.co_diag.specs.Found.{consumer_diagnostic, consumers, counter_diagnostic, counters, identifiers, other_counters}
+use Rattle.diag_nodes.specs.declared.consumer.HeartbeatConsumer.{HeartbeatConsumer}
+use Rattle.co_diag.specs.Found.{consumer_diagnostic, counter_diagnostic, other_counters}
+use Rattle.diag_nodes.specs.Found.{consumers, counters, identifiers}
 use Rattle.co_diag.specs.Found.{shared_identifiers, shared_in, unfit_consumers}
 use Rattle.co_diag.specs.Holds.{producer_time}
-use Rattle.co_diag.specs.Kept.{time_among, times}
-use Rattle.co_diag.specs.Rules.{heartbeat_time, numbers_of, time_by, times_in}
-use Rattle.co_diag.proofs.MemberLemmas.{member_found, member_listed}
+use Rattle.diag_nodes.specs.Kept.{time_among, times}
+use Rattle.diag_nodes.specs.Rules.{heartbeat_time, numbers_of, times_in}
+use Rattle.co_diag.specs.Rules.{time_by}
+use Rattle.diag_nodes.proofs.MemberLemmas.{member_found, member_listed}
 
 -- ---- the time of a node
 

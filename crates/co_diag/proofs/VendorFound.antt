@@ -21,11 +21,13 @@ use Rattle.diag_lines.specs.declared.code.Code.TheVariants.{UnplannedTpdo, Unpla
 use Rattle.diag_lines.specs.declared.diag.Diag.{Diag}
 use Rattle.diag_lines.specs.declared.subject.Subject.TheVariants as of
 use Rattle.diag_lines.proofs.ListLemmas.{Contains-nil}
-use Rattle.co_diag.specs.Found.{diagnostic, node_findings, pdo_findings, useless_receive, useless_receives, vendor_findings}
-use Rattle.co_diag.specs.Holds.{Holds, IsMadeNode, IsUselessReceive, IsWrittenBesideLimits, SendsUnplanned, TakesUnplanned}
+use Rattle.diag_nodes.specs.Found.{diagnostic}
+use Rattle.co_diag.specs.Found.{node_findings, pdo_findings, useless_receive, useless_receives, vendor_findings}
+use Rattle.co_diag.specs.Holds.{Holds, IsMadeNode, IsUselessReceive, IsWrittenBesideLimits, SendsUnplanned}
+use Rattle.co_diag.specs.Holds.{TakesUnplanned}
 use Rattle.co_diag.specs.Holds.{is_useless}
 use Rattle.co_diag.proofs.ListLemmas.{Contains-flat_map, Contains-map, from_flat_map, from_map}
-use Rattle.co_diag.proofs.MemberLemmas.{member_found, member_listed}
+use Rattle.diag_nodes.proofs.MemberLemmas.{member_found, member_listed}
 
 module _ (p : Content) where
   abbrev plan : List PlannedMessage

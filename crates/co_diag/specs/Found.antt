@@ -1,6 +1,6 @@
 -- The diagnostics of a project as a list. Which they are is said by `Holds`: a law says that the list has exactly what
 -- holds, each once, in order.
-use Rattle.std.specs.Prelude.{◌≡◌, ℕ, Bool, false, ◌==◌, ◌&&◌, ◌||◌, not, nat_le, if◌then◌else◌, List, [], ◌∷◌, ◌++◌, length, map}
+use Rattle.std.specs.Prelude.{◌≡◌, ℕ, Bool, ◌==◌, ◌&&◌, not, nat_le, if◌then◌else◌, List, [], ◌∷◌, ◌++◌, length, map}
 use Rattle.std.specs.Prelude.{filter, filter_map, Contains, Option, Some, None, option_map, option_and_then}
 use Rattle.std.specs.FinMap.{entries, get}
 use Rattle.std.specs.List.{flat_map}
@@ -9,13 +9,10 @@ use Rattle.std.specs.Result.{result_err}
 use Rattle.ini_text.specs.Content.{Content as DataSheet, content_of}
 use Rattle.cia301.specs.TransmissionTypes.{is_on_request}
 use Rattle.cia301.specs.CobIds.{is_restricted}
-use Rattle.eds_device.specs.Described.{default_text, kind_at}
 use Rattle.eds_device.specs.Entries.{entry_at}
 use Rattle.eds_device.specs.Places.{pairs_of}
-use Rattle.node_parameters.specs.Judgement.{parameter_bytes, set_bytes}
-use Rattle.node_parameters.specs.Parameters.{parameter_text}
+use Rattle.node_parameters.specs.Judgement.{set_bytes}
 use Rattle.co_scenario.specs.declared.event.Event.{Event}
-use Rattle.co_scenario.specs.declared.event.Event.TheVariants as event
 use Rattle.co_scenario.specs.declared.timed_event.TimedEvent.{TimedEvent}
 use Rattle.project_edits.specs.Versions.{is_three}
 use Rattle.project_messages.specs.declared.linked.Linked.{Linked}
@@ -28,48 +25,31 @@ use Rattle.pdo_plan.specs.declared.outcome.Outcome.{Outcome}
 use Rattle.pdo_plan.specs.declared.outcome.Outcome.TheVariants.{Planned, Faulty}
 use Rattle.pdo_plan.specs.declared.planned_message.PlannedMessage.{PlannedMessage}
 use Rattle.co_project.specs.Project.{Content}
-use Rattle.project_plan.specs.Doubtful.{spells_none}
 use Rattle.project_plan.specs.Network.{Member, members, plan_of_project}
 use Rattle.diag_lines.specs.declared.code.Code.{Code}
-use Rattle.diag_lines.specs.declared.code.Code.TheVariants.{Unreadable, SharedIdentifier, RemoteType, NoSync}
-use Rattle.diag_lines.specs.declared.code.Code.TheVariants.{UnfitConsumer, SkippedLine, OtherCounter, UnreachedStart}
-use Rattle.diag_lines.specs.declared.code.Code.TheVariants.{UnplannedTpdo, UnplannedRpdo, BesideLimits, UselessReceive}
-use Rattle.diag_lines.specs.declared.subject.Subject.{Subject}
-use Rattle.diag_lines.specs.declared.subject.Subject.TheVariants as of
+use Rattle.diag_lines.specs.declared.code.Code.TheVariants.{SharedIdentifier, RemoteType, NoSync, UnfitConsumer}
+use Rattle.diag_lines.specs.declared.code.Code.TheVariants.{SkippedLine, OtherCounter, UnreachedStart, UnplannedTpdo}
+use Rattle.diag_lines.specs.declared.code.Code.TheVariants.{UnplannedRpdo, BesideLimits, UselessReceive}
 use Rattle.diag_lines.specs.declared.diag.Diag.{Diag}
-use Rattle.co_diag.specs.Faults.{parameter_code, message_code}
-use Rattle.co_diag.specs.declared.consumer.HeartbeatConsumer.{HeartbeatConsumer}
-use Rattle.co_diag.specs.Holds.{device_for, is_useless, producer_time, starts_at_none, type_of, waits_for_none}
-use Rattle.co_diag.specs.Rules.{consumers_in, counters_in, identifiers_in, is_unfit, numbers_of}
+use Rattle.diag_nodes.specs.Codes.{parameter_code}
+use Rattle.co_diag.specs.Faults.{message_code}
+use Rattle.diag_nodes.specs.declared.consumer.HeartbeatConsumer.{HeartbeatConsumer}
+use Rattle.diag_nodes.specs.Devices.{device_for}
+use Rattle.co_diag.specs.Holds.{is_useless, producer_time, starts_at_none, type_of, waits_for_none}
+use Rattle.co_diag.specs.Rules.{is_unfit}
 use Rattle.diag_lines.specs.Order.{diag_cmp}
 use Rattle.diag_lines.specs.Sets.{sorted_set}
-
-abbrev pub diagnostic : Code → Subject → Diag
-diagnostic code subject = record { code = code; subject = subject }
+use Rattle.diag_nodes.specs.Found.{diagnostic, parameter_diagnostic, unreadable_defaults, consumers, identifiers}
+use Rattle.diag_nodes.specs.Found.{counters}
+use Rattle.co_scenario.specs.declared.event.Event.TheVariants as event
+use Rattle.diag_lines.specs.declared.subject.Subject.TheVariants as of
 
 -- ---- nodes
 
--- the fault of the parameter of an entry
-unfoldable pub parameter_diagnostic : ℕ × Member → ℕ × ℕ → Option Diag
-parameter_diagnostic e place =
-    option_map (λ fault. diagnostic (parameter_code fault) (of.Param e.0 place.0 place.1))
-    (option_and_then (λ text. result_err (parameter_bytes (entry_at e.1.sections e.0 place.0 place.1) text e.0))
-    (parameter_text e.1.sections e.1.node.params place))
-
--- those of a node's own parameters, and of the entries of its EDS
+-- the faults of a node's own parameters, and of the entries of its EDS
 unfoldable pub unfit_parameters : ℕ × Member → List Diag
 unfit_parameters e = filter_map (λ own. parameter_diagnostic e own.0) (entries e.1.node.params)
     ++ filter_map (parameter_diagnostic e) (pairs_of e.1.sections)
-
--- the default of an entry of a modelled type that spells none of its values
-unfoldable pub unreadable_default : ℕ × Member → ℕ × ℕ → Option Diag
-unreadable_default e place =
-    option_and_then (λ text. if spells_none e.0 text (kind_at e.1.sections place)
-    then Some (diagnostic Unreadable (of.Default e.0 place.0 place.1)) else None)
-    (default_text e.1.sections place.0 place.1)
-
-unfoldable pub unreadable_defaults : ℕ × Member → List Diag
-unreadable_defaults e = filter_map (unreadable_default e) (pairs_of e.1.sections)
 
 -- ---- configured nodes
 
@@ -78,16 +58,8 @@ abbrev pub consumer_diagnostic : (ℕ → Option ℕ) → HeartbeatConsumer → 
 consumer_diagnostic time c =
     if is_unfit time c.number then Some (diagnostic UnfitConsumer (of.Node c.node (Some c.sub))) else None
 
--- the heartbeat consumers of all nodes
-unfoldable pub consumers : Content → List HeartbeatConsumer
-consumers p = flat_map (consumers_in (numbers_of p)) (members p)
-
 unfoldable pub unfit_consumers : Content → List Diag
 unfit_consumers p = filter_map (consumer_diagnostic (producer_time p)) (consumers p)
-
--- the identifiers of the TPDOs of all nodes
-unfoldable pub identifiers : Content → List ℕ
-identifiers p = flat_map (identifiers_in (numbers_of p)) (members p)
 
 -- an identifier that so many TPDOs have: two or more, and it isn't restricted
 abbrev pub identifier_diagnostic : ℕ → ℕ → Option Diag
@@ -104,10 +76,6 @@ shared_identifiers p = filter_map (shared_in (identifiers p)) (identifiers p)
 abbrev pub counter_diagnostic : ℕ → ℕ × ℕ → Option Diag
 counter_diagnostic sync_counter c =
     if not (c.1 == sync_counter) then Some (diagnostic OtherCounter (of.Node c.0 None)) else None
-
--- those of all nodes that have one
-unfoldable pub counters : Content → List (ℕ × ℕ)
-counters p = flat_map (counters_in (numbers_of p)) (members p)
 
 unfoldable pub other_counters : Content → List Diag
 other_counters p = filter_map (counter_diagnostic p.sync_counter) (counters p)

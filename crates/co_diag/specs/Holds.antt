@@ -1,6 +1,6 @@
 -- What is wrong with a project: one predicate for each code (CiA 301 and 306 say what an entry, a PDO, an identifier
 -- and a heartbeat consumer may be; the codes are this profile's own).
-use Rattle.std.specs.Prelude.{◌≡◌, ◌⊎◌, ◌≤◌, ℕ, ◌==◌, ◌&&◌, Bool, true, false, nat_lt, List, length, filter, map, Option}
+use Rattle.std.specs.Prelude.{◌≡◌, ◌≤◌, ℕ, ◌==◌, ◌&&◌, Bool, true, false, nat_lt, List, length, filter, map, Option}
 use Rattle.std.specs.Prelude.{Some, None, option_and_then, option_map, Err, Contains, not, ◌||◌}
 use Rattle.std.specs.FinMap.{get}
 use Rattle.std.specs.List.{find, flat_map, list_any}
@@ -14,7 +14,6 @@ use Rattle.eds_device.specs.Described.{default_text, kind_at}
 use Rattle.eds_device.specs.Entries.{entry_at}
 use Rattle.eds_device.specs.Places.{pairs_of}
 use Rattle.node_parameters.specs.declared.parameter_fault.ParameterFault.{ParameterFault}
-use Rattle.node_parameters.specs.declared.parameter_fault.ParameterFault.TheVariants as parameter
 use Rattle.node_parameters.specs.Judgement.{parameter_bytes, set_bytes}
 use Rattle.node_parameters.specs.Parameters.{parameter_text}
 use Rattle.co_scenario.specs.declared.event.Event.TheVariants.{Set}
@@ -23,20 +22,18 @@ use Rattle.project_messages.specs.declared.linked.Linked.{Linked}
 use Rattle.project_messages.specs.declared.receive.Receive.{Receive}
 use Rattle.pdo_links.specs.VendorWrites.{vendor_link_writes}
 use Rattle.pdo_findings.specs.Findings.{can_have_event, refused_places, unplanned_rpdos, unplanned_tpdos}
-use Rattle.pdo_plan.specs.declared.clean.Clean.{Clean}
-use Rattle.pdo_plan.specs.declared.consumer.Consumer.{Consumer}
+use Rattle.pdo_choices.specs.declared.clean.Clean.{Clean}
+use Rattle.pdo_choices.specs.declared.consumer.Consumer.{Consumer}
 use Rattle.pdo_stations.specs.declared.as_made.AsMade.{AsMade}
 use Rattle.pdo_stations.specs.Devices.{as_made}
 use Rattle.pdo_plan.specs.declared.message_fault.MessageFault.{MessageFault}
-use Rattle.pdo_plan.specs.declared.message_fault.MessageFault.TheVariants as message
 use Rattle.pdo_plan.specs.declared.outcome.Outcome.{Outcome}
 use Rattle.pdo_plan.specs.declared.outcome.Outcome.TheVariants.{Faulty}
 use Rattle.pdo_plan.specs.Plan.{clean_of}
 use Rattle.pdo_plan.specs.declared.planned_message.PlannedMessage.{PlannedMessage}
 use Rattle.co_project.specs.declared.node.Node.{Node}
 use Rattle.co_project.specs.Project.{Content}
-use Rattle.co_project.specs.Tables.{node_at}
-use Rattle.project_plan.specs.Network.{Member, device_at, member_at, members, plan_of_project}
+use Rattle.project_plan.specs.Network.{Member, member_at, members, plan_of_project}
 use Rattle.diag_lines.specs.declared.code.Code.{Code}
 use Rattle.diag_lines.specs.declared.code.Code.TheVariants.{NoEntry, Unreadable, OutsideLimits, NotWritable, NoObjects}
 use Rattle.diag_lines.specs.declared.code.Code.TheVariants.{TpdoTaken, TooManyBits, NotMappable, Mismatched, NoRpdo}
@@ -45,11 +42,15 @@ use Rattle.diag_lines.specs.declared.code.Code.TheVariants.{SharedIdentifier, No
 use Rattle.diag_lines.specs.declared.code.Code.TheVariants.{UnfitConsumer, SkippedLine, OtherCounter, UnreachedStart}
 use Rattle.diag_lines.specs.declared.code.Code.TheVariants.{UnplannedTpdo, UnplannedRpdo, BesideLimits, UselessReceive}
 use Rattle.diag_lines.specs.declared.subject.Subject.{Subject}
-use Rattle.diag_lines.specs.declared.subject.Subject.TheVariants as of
 use Rattle.diag_lines.specs.declared.diag.Diag.{Diag}
 use Rattle.project_plan.specs.Doubtful.{spells_none}
 use Rattle.project_plan.specs.Values.{number_after}
-use Rattle.co_diag.specs.Rules.{consumer_at, counter_at, heartbeat_time, identifier_at, is_unfit, numbers_of, time_by}
+use Rattle.diag_nodes.specs.Rules.{consumer_at, counter_at, heartbeat_time, identifier_at, numbers_of}
+use Rattle.co_diag.specs.Rules.{is_unfit, time_by}
+use Rattle.diag_nodes.specs.Devices.{device_for}
+use Rattle.node_parameters.specs.declared.parameter_fault.ParameterFault.TheVariants as parameter
+use Rattle.pdo_plan.specs.declared.message_fault.MessageFault.TheVariants as message
+use Rattle.diag_lines.specs.declared.subject.Subject.TheVariants as of
 
 -- a parameter of a node, its own or one of the EDS, has this fault
 pub record HasUnfitParameter (p : Content) (fault : ParameterFault) (node index sub : ℕ) : Type 0 where
@@ -184,10 +185,6 @@ pub record IsWrittenBesideLimits (p : Content) (node index sub : ℕ) : Type 0 w
   pub device : AsMade
   pub made : IsMadeNode p node device
   pub found : Contains (refused_places device (vendor_link_writes (plan_of_project p) device node)) (index, sub)
-
--- the data sheet of the node of a number
-abbrev pub device_for : Content → ℕ → Option DataSheet
-device_for p id = option_and_then (λ (node : Node). device_at p node.eds) (node_at p.nodes id)
 
 -- the RPDO by which a node takes a message, where that is clean
 abbrev pub rpdo_taken : Outcome → ℕ → Option ℕ

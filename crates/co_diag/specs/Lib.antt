@@ -1,9 +1,7 @@
-pub mod Faults
-pub mod Rules
-pub mod Holds
-pub mod Found
-pub mod Devices
-pub mod Kept
-pub mod Alone
 pub mod Counts
+pub mod Faults
+pub mod Found
+pub mod Holds
+pub mod Lines
+pub mod Rules
 pub mod Sheets

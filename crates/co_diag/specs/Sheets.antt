@@ -1,18 +1,14 @@
 -- Private: what is found of nodes by the entries that their data sheets say have to be looked at.
-use Rattle.std.specs.Prelude.{ℕ, List, ◌++◌, filter_map}
+use Rattle.std.specs.Prelude.{List, ◌++◌, filter_map}
 use Rattle.std.specs.FinMap.{entries}
 use Rattle.std.specs.List.{flat_map}
 use Rattle.co_project.specs.Project.{Content}
-use Rattle.project_plan.specs.Network.{Member, members, plan_of_project}
-use Rattle.project_plan.specs.GivenParameters.{given_places}
+use Rattle.project_plan.specs.Network.{members, plan_of_project}
 use Rattle.diag_lines.specs.declared.diag.Diag.{Diag}
-use Rattle.co_diag.specs.Found.{message_faults, message_warnings, other_counters, parameter_diagnostic}
-use Rattle.co_diag.specs.Found.{shared_identifiers, skipped_lines, unfit_consumers, unfit_event, unreadable_defaults, vendor_findings}
-
--- the faults of a node's own parameters, and of those that its data sheet gives
-unfoldable pub faults_of_node : ℕ × Member → List Diag
-faults_of_node e = filter_map (λ own. parameter_diagnostic e own.0) (entries e.1.node.params)
-    ++ filter_map (parameter_diagnostic e) (given_places e.1.sections)
+use Rattle.co_diag.specs.Found.{message_faults, message_warnings, other_counters, shared_identifiers, skipped_lines}
+use Rattle.co_diag.specs.Found.{unfit_consumers, unfit_event, vendor_findings}
+use Rattle.diag_nodes.specs.Found.{unreadable_defaults}
+use Rattle.diag_nodes.specs.Sheets.{faults_of_node}
 
 -- what is found of the nodes by their data sheets, and then the rest
 unfoldable pub diagnostics_met : Content → List Diag

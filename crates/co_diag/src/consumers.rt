@@ -2,13 +2,13 @@
 ghost use Rattle.std.specs.Prelude.{◌≡◌, ◌++◌, ◌==◌, OnOk, filter_map, option_copied};
 ghost use Rattle.std.specs.List.{find};
 ghost use Rattle.co_diag.specs.Found.{consumer_diagnostic};
-ghost use Rattle.co_diag.specs.Kept.{time_among};
+ghost use Rattle.diag_nodes.specs.Kept.{time_among};
 ghost use Rattle.co_diag.specs.Rules.{is_unfit, time_by};
 
-use crate::consumer::HeartbeatConsumer;
 use cia301::ConsumerHeartbeatTime;
 use co_project::Project;
 use diag_lines::{Code, Diag, Subject};
+use diag_nodes::HeartbeatConsumer;
 use std::alloc::AllocError;
 
 /// The node of a number and its time.

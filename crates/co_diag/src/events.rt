@@ -1,13 +1,12 @@
 //! What is wrong with the events of the scenario, put at the end of what was found.
 ghost use Rattle.std.specs.Prelude.{◌≡◌, ◌++◌, OnOk, IfOk, filter_map};
 ghost use Rattle.std.specs.FinMap as table;
-ghost use Rattle.co_diag.specs.Devices.{AreAllRead};
+ghost use Rattle.diag_nodes.specs.Devices.{AreAllRead};
 ghost use Rattle.co_diag.specs.Found.{set_fault, unfit_event};
 
-use crate::devices::device_for;
-use crate::parameters::parameter_code;
 use co_scenario::Event;
 use diag_lines::{Diag, Subject};
+use diag_nodes::{device_for, parameter_code};
 use node_parameters::judge_set;
 use project_plan::Library;
 use std::alloc::{AllocError, Global};

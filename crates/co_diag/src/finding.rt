@@ -1,25 +1,24 @@
 //! All that is wrong with a project.
 ghost use Rattle.std.specs.Prelude.{◌≡◌, ◌++◌, IfOk, OnOk};
 ghost use Rattle.project_plan.specs.Network.{plan_of_project};
-ghost use Rattle.co_diag.specs.Devices.{AreAllRead};
-ghost use Rattle.co_diag.specs.Found.{consumers, counters, diagnostics_of, identifiers, other_counters};
+ghost use Rattle.diag_nodes.specs.Devices.{AreAllRead};
+ghost use Rattle.diag_nodes.specs.Found.{consumers, counters, identifiers};
+ghost use Rattle.co_diag.specs.Found.{diagnostics_of, other_counters};
 ghost use Rattle.co_diag.specs.Found.{shared_identifiers, unfit_consumers};
-ghost use Rattle.co_diag.specs.Kept.{times};
+ghost use Rattle.diag_nodes.specs.Kept.{times};
 ghost use Rattle.co_diag.specs.Sheets.{diagnostics_met};
 
 use crate::consumers::find_unfit_consumers;
 use crate::counters::find_other_counters;
-use crate::devices::read_all;
 use crate::events::find_unfit_events;
 use crate::found_before::FoundBefore;
-use crate::gathering::{add_copies, gather_nodes};
-use crate::kept::Kept;
 use crate::messages::{find_message_faults, find_warnings};
 use crate::shared::find_shared;
 use crate::texts::find_skipped_lines;
 use crate::vendor::find_in_version_3;
 use co_project::Project;
 use diag_lines::{Diag, sort_once};
+use diag_nodes::{Kept, add_copies, gather_nodes, read_all};
 use pdo_plan::Plan;
 use project_plan::Library;
 use std::alloc::{AllocError, Global};
@@ -75,9 +74,11 @@ fn find_all(
 /// time by the length of these others, the number of the texts' warnings, the entries and parameters of each node that
 /// isn't the same, with the same device, as when it was last found, the parameters and the length of the text of each
 /// other, the entries of each node that sends a message, the messages for each node, the events, and the diagnostics
-/// with their logarithm; memory by the number of diagnostics, the devices of the nodes' texts and of one more, the
-/// parameters of all nodes, and for each node the entries that its data sheet gives a parameter or a doubtful default,
-/// and the values that are wanted of it. Want of memory is the only error.
+/// with their logarithm; in version 3 also for each node the consumers of the messages and 512 PDOs of each kind, each
+/// with the logarithm of the node's entries, and for each receive the sinks of its message. Takes memory by the number
+/// of diagnostics, the devices of the nodes' texts and of one more, the parameters of all nodes, and for each node the
+/// entries that its data sheet gives a parameter or a doubtful default, and the values that are wanted of it; in version 3
+/// also by the writes of one node's PDOs. Want of memory is the only error.
 pub fn diagnostics_by(
     alloc: Global,
     library: &mut Library<'_>,

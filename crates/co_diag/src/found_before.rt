@@ -1,7 +1,7 @@
 //! What was found before of what may not have changed.
 
 use crate::lines_found::LinesFound;
-use crate::nodes_found::NodesFound;
+use diag_nodes::NodesFound;
 use std::alloc::Global;
 
 /// What `diagnostics_by` found before: of nodes by themselves, and of texts that no node has. It changes no answer.

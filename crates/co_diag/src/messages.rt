@@ -6,7 +6,8 @@ ghost use Rattle.cia301.specs.TransmissionTypes.{is_on_request};
 ghost use Rattle.diag_lines.specs.declared.code.Code.TheVariants.{NoSync, RemoteType, UnreachedStart};
 ghost use Rattle.diag_lines.specs.declared.subject.Subject.TheVariants as of;
 ghost use Rattle.co_diag.specs.Faults.{message_code};
-ghost use Rattle.co_diag.specs.Found.{diagnostic, message_faults, message_warnings, said_if};
+ghost use Rattle.diag_nodes.specs.Found.{diagnostic};
+ghost use Rattle.co_diag.specs.Found.{message_faults, message_warnings, said_if};
 ghost use Rattle.co_diag.specs.Holds.{is_cyclic, starts_at_none, type_of, waits_for_none};
 
 use cia301::TransmissionType;

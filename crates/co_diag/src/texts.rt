@@ -7,8 +7,9 @@ ghost use Rattle.diag_lines.specs.declared.subject.Subject.TheVariants as of;
 ghost use Rattle.ini_text.specs.Content.{content_of};
 ghost use Rattle.eds_device.specs.Faults.{device_of};
 ghost use Rattle.co_project.specs.Tables.{text_at};
-ghost use Rattle.co_diag.specs.Devices.{lines_at};
-ghost use Rattle.co_diag.specs.Found.{diagnostic, skipped_lines};
+ghost use Rattle.co_diag.specs.Lines.{lines_at};
+ghost use Rattle.diag_nodes.specs.Found.{diagnostic};
+ghost use Rattle.co_diag.specs.Found.{skipped_lines};
 
 use crate::lines_found::LinesFound;
 use base::{Octets, Shared};

@@ -3,37 +3,29 @@ ghost use Rattle.std.specs.Prelude.{◌≡◌, ◌++◌, [], OnOk, IfOk, filter_
 ghost use Rattle.std.specs.List.{cons_option, flat_map};
 ghost use Rattle.diag_lines.specs.declared.code.Code.TheVariants.{UselessReceive};
 ghost use Rattle.diag_lines.specs.declared.subject.Subject.TheVariants as of;
-ghost use Rattle.pdo_plan.specs.declared.outcome.Outcome.TheVariants.{Planned};
-ghost use Rattle.co_diag.specs.Devices.{AreAllRead};
-ghost use Rattle.co_diag.specs.Found.{diagnostic, useless_receive, useless_receives};
+ghost use Rattle.diag_nodes.specs.Devices.{AreAllRead};
+ghost use Rattle.diag_nodes.specs.Found.{diagnostic};
+ghost use Rattle.co_diag.specs.Found.{useless_receive, useless_receives};
 ghost use Rattle.co_diag.specs.Holds.{is_useless, lacks_event, rpdo_taken};
 
-use crate::devices::device_for;
 use diag_lines::{Code, Diag, Name, Subject};
+use diag_nodes::device_for;
 use pdo_findings::can_have_event;
-use pdo_plan::{Clean, Outcome, Plan, PlannedMessage};
+use pdo_plan::{Outcome, Plan, PlannedMessage, consumer_at};
 use pdo_stations::AsMade;
 use project_messages::{Linked, Receive};
 use project_plan::Library;
 use std::alloc::{AllocError, Global};
 
-/// The RPDO by which a node takes a message.
-fn rpdo_of(clean: &Clean, node: u8) -> Option<u16>
-    ensures { result ≡ rpdo_taken (Planned clean.now) node }
-{
-    let consumers = clean.consumers.as_slice();
-    let consumer = consumers.iter().find(|consumer| consumer.node == node)?;
-    Some(consumer.rpdo)
-}
-
-/// The same, where the message is clean.
+/// The RPDO by which a node takes a message, where that is clean.
 fn rpdo_taken(outcome: &Outcome, node: u8) -> Option<u16>
     ensures { result ≡ rpdo_taken outcome.now node }
 {
-    match outcome {
-        Outcome::Planned(clean) => rpdo_of(clean, node),
-        Outcome::Faulty(_faults) => None,
-    }
+    let Outcome::Planned(clean) = outcome else {
+        return None;
+    };
+    let consumer = consumer_at(clean.consumers.as_slice(), node)?;
+    Some(consumer.rpdo)
 }
 
 /// Whether an RPDO of a node can't have an event time.

@@ -6,14 +6,15 @@ ghost use Rattle.diag_lines.specs.declared.code.Code.TheVariants.{BesideLimits, 
 ghost use Rattle.diag_lines.specs.declared.subject.Subject.TheVariants as of;
 ghost use Rattle.project_plan.specs.Library.{IsRead};
 ghost use Rattle.project_plan.specs.Network.{members, plan_of_project};
-ghost use Rattle.co_diag.specs.Devices.{AreAllRead, of_node};
-ghost use Rattle.co_diag.specs.Found.{diagnostic, node_findings, pdo_findings};
+ghost use Rattle.diag_nodes.specs.Devices.{AreAllRead, of_node};
+ghost use Rattle.diag_nodes.specs.Found.{diagnostic};
+ghost use Rattle.co_diag.specs.Found.{node_findings, pdo_findings};
 ghost use Rattle.co_diag.specs.Found.{vendor_findings};
 
-use crate::devices::device_of;
 use crate::useless::find_useless_receives;
 use co_project::Node;
 use diag_lines::{Code, Diag, Subject};
+use diag_nodes::device_of;
 use pdo_findings::{refused_places, unplanned_rpdos, unplanned_tpdos};
 use pdo_links::vendor_link_writes;
 use pdo_plan::Plan;

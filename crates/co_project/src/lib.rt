@@ -16,3 +16,4 @@ pub use node::Node;
 pub use node_parameters::Params;
 pub use project::Project;
 pub use project_edits::{Command, EditFault, ManagerSettings, ScriptVersion, TimeStamps, refusal};
+pub use project_messages::Messages;

@@ -8,11 +8,11 @@ use Rattle.image_parts.specs.Contents.{Content, Image}
 use Rattle.image_parts.specs.declared.part.Part.{Part}
 use Rattle.co_segments.specs.declared.reached.Reached.{Reached}
 use Rattle.co_segments.specs.Advances.{Advances, Goes, Progress}
-use Rattle.co_segments.specs.Segments.{IsServed, Kept, recorded_of}
+use Rattle.co_segments.specs.Segments.{IsServed, Segment, recorded_of}
 use Rattle.co_segments.specs.Stocks.{AreSegments, StandsAt, held_in}
 
 -- memory ran out
-pub goes_wrong : {P E : Type 0} {asked : Asked P Part Content} {number : ℕ} {here : Bus} {looked_at : List Kept}
+pub goes_wrong : {P E : Type 0} {asked : Asked P Part Content} {number : ℕ} {here : Bus} {looked_at : List Segment}
     {old new : Progress P} {result : Result Reached E} → IsErr result → AreSegments new.stock
     → new.stock.recent.capacity ≡ old.stock.recent.capacity
     → (asked.seen new.parts).image ≡ (asked.seen old.parts).image → Rises old.work new.work
@@ -29,7 +29,7 @@ goes_wrong {asked = asked} {number = number} {here = here} {looked_at = looked_a
     }
 
 -- the same from an earlier point, before some segments were looked at
-pub goes_from : {P E : Type 0} {asked : Asked P Part Content} {number : ℕ} {here : Bus} {some looked_at : List Kept}
+pub goes_from : {P E : Type 0} {asked : Asked P Part Content} {number : ℕ} {here : Bus} {some looked_at : List Segment}
     {old between new : Progress P} {result : Result Reached E} → Goes asked number here some between new result
     → held_in between.stock ≡ held_in old.stock → between.stock.recent.capacity ≡ old.stock.recent.capacity
     → between.telling.told ≡ old.telling.told → between.work ≡ old.work
@@ -45,7 +45,7 @@ goes_from {asked = asked} {number = number} {here = here} {some = some} {looked_
       ran = a.ran;
       read = a.read;
       served = subst (λ (i : Image). IsServed i (held_in old.stock) number here a.kept a.rest a.ran a.read) image
-          (subst (λ (ks : List Kept).
+          (subst (λ (ks : List Segment).
           IsServed (asked.seen between.parts).image ks number here a.kept a.rest a.ran a.read) held a.served);
       end_is = a.end_is;
       told_is = rw (← told) a.told_is;

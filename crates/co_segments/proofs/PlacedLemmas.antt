@@ -9,13 +9,13 @@ use Rattle.kept_values.proofs.EntryLemmas.{head_in, tail_in, in_cons, none_in}
 use Rattle.can_bus.specs.Bus.{Bus}
 use Rattle.co_segments.specs.Placed.{AreNamed, AreSound, IsLater, IsNamed, ServesNone, IsEndNumber}
 use Rattle.co_segments.specs.Placed.{Meaning, Numbered, Placed, kept_of}
-use Rattle.co_segments.specs.declared.given.Given.{Given}
+use Rattle.co_segments.specs.declared.numbers_given.NumbersGiven.{NumbersGiven}
 use Rattle.trace_spans.specs.Records.{IsRecordOf}
 use Rattle.trace_spans.proofs.KnownLemmas.{all_marked_later}
 use Rattle.trace_spans.proofs.NumberLemmas.{stands_later}
 use Rattle.image_parts.specs.Asking.{outcome, reads}
 use Rattle.image_parts.specs.Contents.{Image}
-use Rattle.co_segments.specs.Segments.{IsServed, IsValidOnce, IsStale, IsTaken, Kept, Serves}
+use Rattle.co_segments.specs.Segments.{IsServed, IsValidOnce, IsStale, IsTaken, Segment, Serves}
 use Rattle.can_bus.specs.Spans.{span}
 use Rattle.co_segments.proofs.ValidLemmas.{gives_from_serves, valid_from_sound}
 
@@ -36,7 +36,7 @@ in_lookup key (e ∷ es) s h = (elim (nat_eq key e.0) as (λ t. nat_eq key e.0 �
 
 -- the promoted entries, without their keys: the segment, and the rest
 pub record IsFirst (key : ℕ) (es : List (ℕ × Placed)) (s : Placed) : Type 0 where
-  pub rest : List Kept
+  pub rest : List Segment
   pub taken : IsTaken (kept_of es) s.kept rest
   pub others : kept_of (remove_entry (nat_eq key) es) ≡ rest
   pub key_found : ℕ
@@ -115,7 +115,7 @@ pub kept_added : (n key : ℕ) (s : Placed) (es : List (ℕ × Placed))
 kept_added n key s es = kept_take n ((key, s) ∷ es)
 
 -- a kept segment is that of an entry
-pub in_kept : (es : List (ℕ × Placed)) (k : Kept) → Contains (kept_of es) k
+pub in_kept : (es : List (ℕ × Placed)) (k : Segment) → Contains (kept_of es) k
     → (e : ℕ × Placed) × (Contains es e × (e.1.kept ≡ k))
 in_kept [] k c = absurd (none_in k c)
 in_kept (e ∷ es) k c = elim (in_cons e.1.kept (kept_of es) k c) [
@@ -128,7 +128,7 @@ in_kept (e ∷ es) k c = elim (in_cons e.1.kept (kept_of es) k c) [
 pub sound_promoted : (key : ℕ) (es : List (ℕ × Placed)) → AreSound es → AreSound (promoted (nat_eq key) es)
 sound_promoted key es h = λ e c. h e (Contains-promoted (nat_eq key) es e c)
 
-pub named_promoted : (m : Meaning) (given : Given) (key : ℕ) (es : List (ℕ × Placed)) → AreNamed m given es
+pub named_promoted : (m : Meaning) (given : NumbersGiven) (key : ℕ) (es : List (ℕ × Placed)) → AreNamed m given es
     → AreNamed m given (promoted (nat_eq key) es)
 named_promoted m given key es h = λ e c. h e (Contains-promoted (nat_eq key) es e c)
 
@@ -140,7 +140,7 @@ sound_added n key s es sound h = λ e c. by e (in_cons (key, s) es e (Contains-t
     by e (inl is) = subst (λ (x : ℕ × Placed). IsValidOnce x.1.kept) is sound
     by e (inr c) = h e c
 
-pub named_added : (m : Meaning) (given : Given) (n key : ℕ) (s : Placed) (es : List (ℕ × Placed)) → IsNamed m given s
+pub named_added : (m : Meaning) (given : NumbersGiven) (n key : ℕ) (s : Placed) (es : List (ℕ × Placed)) → IsNamed m given s
     → AreNamed m given es → AreNamed m given (take n ((key, s) ∷ es))
 named_added m given n key s es new h = λ e c. by e (in_cons (key, s) es e (Contains-take n ((key, s) ∷ es) e c))
   where
@@ -150,7 +150,7 @@ named_added m given n key s es new h = λ e c. by e (in_cons (key, s) es e (Cont
 
 -- ---- once more numbers were given
 
-module _ (old new : Meaning) (given later : Given) (grows : IsLater old given new later) where
+module _ (old new : Meaning) (given later : NumbersGiven) (grows : IsLater old given new later) where
   pub one_later : (s : Placed) → IsNamed old given s → IsNamed new later s
   one_later s h = record {
     start = stands_later old.buses new.buses given.buses later.buses s.start s.kept.start grows.buses grows.more_buses
@@ -182,8 +182,8 @@ pub one_stale : (image : Image) (number : ℕ) (start : Bus) (e : ℕ × Placed)
     → IsStale image (kept_of (e ∷ es)) number start
 one_stale image number start e es not rest = λ k c s. by k s (in_cons e.1.kept (kept_of es) k c)
   where
-    by : (k : Kept) → Serves image number start k → (e.1.kept ≡ k) ⊎ Contains (kept_of es) k → ⊥
-    by k s (inl is) = not (subst (λ (x : Kept). Serves image number start x) (sym is) s)
+    by : (k : Segment) → Serves image number start k → (e.1.kept ≡ k) ⊎ Contains (kept_of es) k → ⊥
+    by k s (inl is) = not (subst (λ (x : Segment). Serves image number start x) (sym is) s)
     by k s (inr c) = rest k c s
 
 -- one of another number more, and those of a front of all
@@ -221,7 +221,7 @@ used_served image es number key start s s' h found serves found' =
     }
 
 -- none is, and one is run
-pub ran_served : (image : Image) (held : List Kept) (number : ℕ) (start : Bus) (kept : Kept)
+pub ran_served : (image : Image) (held : List Segment) (number : ℕ) (start : Bus) (kept : Segment)
     → IsStale image held number start → kept.number ≡ number → kept.start ≡ start
     → outcome (span number start) image ≡ (kept.end, kept.lines)
     → IsRecordOf (reads (span number start) image) kept.reads

@@ -13,12 +13,12 @@ use Rattle.trace_spans.specs.Numbers.{KeepsMeaning, StandsFor, with_meaning}
 use Rattle.trace_spans.specs.Reads.{AreNumbered, AreMarked, LearnsMore, Known, Recorded}
 use Rattle.trace_spans.proofs.NumberLemmas.{given_keeps, given_stands, keeps_all, stands_later}
 use Rattle.trace_spans.specs.declared.look.Look.{Look}
-use Rattle.co_segments.specs.declared.given.Given.{Given}
+use Rattle.co_segments.specs.declared.numbers_given.NumbersGiven.{NumbersGiven}
 use Rattle.co_segments.specs.declared.reached.Reached.{Reached}
 use Rattle.co_segments.specs.declared.stock.Stock.{Stock}
 use Rattle.co_segments.specs.Placed.{AreNamed, AreSound, IsLater, IsMore, IsNamed, ServesNone, IsEndNumber}
 use Rattle.co_segments.specs.Placed.{Meaning, Numbered, Placed}
-use Rattle.co_segments.specs.Segments.{IsValidOnce, Kept}
+use Rattle.co_segments.specs.Segments.{IsValidOnce, Segment}
 use Rattle.co_segments.specs.Stocks.{AreSegments, IsTold, StandsAt}
 use Rattle.co_segments.proofs.PlacedLemmas.{all_later, in_lookup, named_added, named_promoted, sound_added}
 use Rattle.co_segments.proofs.PlacedLemmas.{sound_promoted}
@@ -60,7 +60,7 @@ pub segments_fewer : (old new : Stock)
 segments_fewer old new fewer given h = record {
   sound = λ e c. h.sound e (fewer e c);
   meaning = h.meaning;
-  named = λ e c. subst (λ (g : Given). IsNamed h.meaning g e.1) (sym given) (h.named e (fewer e c));
+  named = λ e c. subst (λ (g : NumbersGiven). IsNamed h.meaning g e.1) (sym given) (h.named e (fewer e c));
 }
 
 -- ---- with the bus that was reached, and what is known of the image
@@ -103,10 +103,10 @@ module _ (image : Image) (old new : Stock) where
   told_still look here same given h = record {
     sound = subst (λ (es : List (ℕ × Placed)). AreSound es) (sym same) h.sound;
     meaning = h.meaning;
-    named = subst (λ (g : Given). AreNamed h.meaning g new.recent.entries) (sym given)
+    named = subst (λ (g : NumbersGiven). AreNamed h.meaning g new.recent.entries) (sym given)
         (subst (λ (es : List (ℕ × Placed)). AreNamed h.meaning old.given es) (sym same) h.named);
-    state = subst (λ (g : Given). StandsFor h.meaning.buses g.buses here.number here.bus) (sym given) h.state;
-    known = subst (λ (g : Given). AreNumbered image h.meaning.contents g.contents look.reads) (sym given) h.known;
+    state = subst (λ (g : NumbersGiven). StandsFor h.meaning.buses g.buses here.number here.bus) (sym given) h.state;
+    known = subst (λ (g : NumbersGiven). AreNumbered image h.meaning.contents g.contents look.reads) (sym given) h.known;
   }
 
   -- more is known of the image
@@ -141,15 +141,15 @@ module _ (image : Image) (old new : Stock) where
         sound = subst (λ (es : List (ℕ × Placed)). AreSound es) (sym first)
             (sound_promoted key old.recent.entries h.sound);
         meaning = h.meaning;
-        named = subst (λ (g : Given). AreNamed h.meaning g new.recent.entries) (sym given)
+        named = subst (λ (g : NumbersGiven). AreNamed h.meaning g new.recent.entries) (sym given)
             (subst (λ (es : List (ℕ × Placed)). AreNamed h.meaning old.given es) (sym first)
             (named_promoted h.meaning old.given key old.recent.entries h.named));
         state = rw (is, given) ((h.named (c.0, s) c.1).end);
-        known = subst (λ (g : Given). AreNumbered image h.meaning.contents g.contents look.reads) (sym given) h.known;
+        known = subst (λ (g : NumbersGiven). AreNumbered image h.meaning.contents g.contents look.reads) (sym given) h.known;
       }
 
   -- one that was run goes first, and its end is reached: with a new number, or with that of a held segment's start
-  module _ (look after : Look) (here n : Numbered) (kept : Kept) (marked : List Recorded)
+  module _ (look after : Look) (here n : Numbered) (kept : Segment) (marked : List Recorded)
       (h : IsTold image old look here) (sound : IsValidOnce kept) (start : kept.start ≡ here.bus) (same : n.bus ≡ kept.end)
       (e : (x : LearnsMore image h.meaning.contents old.given.contents new.given.contents after.reads)
       × AreMarked x.meaning new.given.contents marked) where

@@ -7,10 +7,10 @@ use Rattle.can_bus.specs.Bus.{Bus}
 use Rattle.can_bus.specs.declared.line.Line.{Line}
 use Rattle.can_bus.specs.Spans.{span}
 use Rattle.trace_spans.specs.Records.{IsRecordOf}
-use Rattle.co_segments.specs.Segments.{Kept, IsValid, IsValidOnce, Serves, IsServed, Traced}
+use Rattle.co_segments.specs.Segments.{Segment, IsValid, IsValidOnce, Serves, IsServed, Traced}
 
 -- one that was run under an image
-pub sound_from_run : (image : Image) (number : ℕ) (start : Bus) (kept : Kept) → kept.number ≡ number
+pub sound_from_run : (image : Image) (number : ℕ) (start : Bus) (kept : Segment) → kept.number ≡ number
     → kept.start ≡ start → IsRecordOf (reads (span number start) image) kept.reads
     → outcome (span number start) image ≡ (kept.end, kept.lines) → IsValidOnce kept
 unfolding IsValidOnce
@@ -19,19 +19,19 @@ sound_from_run image number start kept n s r g = (
   r.once,
 )
 
-pub valid_from_sound : (kept : Kept) → IsValidOnce kept → IsValid kept
+pub valid_from_sound : (kept : Segment) → IsValidOnce kept → IsValid kept
 unfolding IsValidOnce
 valid_from_sound kept h = h.0
 
 -- one that serves gives the span under the image
-pub gives_from_serves : (image : Image) (number : ℕ) (start : Bus) (kept : Kept) → IsValid kept
+pub gives_from_serves : (image : Image) (number : ℕ) (start : Bus) (kept : Segment) → IsValid kept
     → Serves image number start kept → outcome (span number start) image ≡ (kept.end, kept.lines)
 gives_from_serves image number start kept v s = rw (← s.0, ← s.1) (v image s.2)
 
 -- one more segment of a trace
-module _ (image : Image) (capacity : ℕ) (held₀ : List Kept) (number : ℕ) where
-  pub traced_more : (s s' : Bus) (held held' : List Kept) (told told' : List Line) (ran read : ℕ) (kept : Kept)
-      (rest : List Kept) (here read_here : ℕ)
+module _ (image : Image) (capacity : ℕ) (held₀ : List Segment) (number : ℕ) where
+  pub traced_more : (s s' : Bus) (held held' : List Segment) (told told' : List Line) (ran read : ℕ) (kept : Segment)
+      (rest : List Segment) (here read_here : ℕ)
       → Traced image capacity held₀ number s held told ran read → IsServed image held number s kept rest here read_here
       → s' ≡ kept.end → held' ≡ take capacity (kept ∷ rest) → told' ≡ told ++ kept.lines
       → Traced image capacity held₀ (number + 1) s' held' told' (ran + here) (read + read_here)

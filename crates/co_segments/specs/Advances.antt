@@ -16,7 +16,7 @@ use Rattle.co_segments.specs.declared.reached.Reached.{Reached}
 use Rattle.co_segments.specs.declared.stock.Stock.{Stock}
 use Rattle.co_segments.specs.declared.telling.Telling.{Telling}
 use Rattle.co_segments.specs.Placed.{Numbered, Placed}
-use Rattle.co_segments.specs.Segments.{HasRun, IsServed, Kept, Traced, recorded_from, recorded_of}
+use Rattle.co_segments.specs.Segments.{HasRun, IsServed, Segment, Traced, recorded_from, recorded_of}
 use Rattle.co_segments.specs.Stocks.{AreSegments, StandsAt, held_in}
 
 -- how far a trace has come: what the store holds, what the trace knows and told, what was counted, and what hands the
@@ -33,10 +33,10 @@ progress stock telling work parts = record { stock = stock; telling = telling; w
 -- ONE MORE SEGMENT, from a bus on: one that serves, or else it is run; it is told, goes first among those held, and is
 -- counted exactly where it is run; parts are asked at most as often as the run reads and the segments that were looked
 -- at have reads
-pub record Advances {P : Type 0} (asked : Asked P Part Content) (number : ℕ) (here : Bus) (looked_at : List Kept)
+pub record Advances {P : Type 0} (asked : Asked P Part Content) (number : ℕ) (here : Bus) (looked_at : List Segment)
     (old new : Progress P) (end : Bus) : Type 0 where
-  pub kept : Kept
-  pub rest : List Kept
+  pub kept : Segment
+  pub rest : List Segment
   pub ran : ℕ
   pub read : ℕ
   pub served : IsServed (asked.seen old.parts).image (held_in old.stock) number here kept rest ran read
@@ -48,7 +48,7 @@ pub record Advances {P : Type 0} (asked : Asked P Part Content) (number : ℕ) (
 
 -- A TRACE GOES ON from the bus before the segment of a number, by one more segment, to the bus behind it, if memory
 -- lasts: of the held segments some are looked at
-pub record Goes {P E : Type 0} (asked : Asked P Part Content) (number : ℕ) (here : Bus) (looked_at : List Kept)
+pub record Goes {P E : Type 0} (asked : Asked P Part Content) (number : ℕ) (here : Bus) (looked_at : List Segment)
     (old new : Progress P) (result : Result Reached E) : Type 0 where
   pub advances : IfOk result (λ end. Advances asked number here looked_at old new end.state.bus)
   pub stands : IfOk result (λ end. StandsAt (asked.seen old.parts).image (number + 1) new.stock new.telling.look end)

@@ -11,14 +11,14 @@ use Rattle.co_segments.specs.declared.reached.Reached.{Reached}
 use Rattle.co_segments.specs.declared.stock.Stock.{Stock}
 use Rattle.co_segments.specs.Placed.{AreNamed, AreSound, ServesNone, Meaning, Numbered, Placed, kept_of}
 use Rattle.co_segments.specs.Placed.{entries_of_number}
-use Rattle.co_segments.specs.Segments.{IsStale, Kept, Serves}
+use Rattle.co_segments.specs.Segments.{IsStale, Segment, Serves}
 
 -- the segments that are held, the last run or used first
-abbrev pub held_in : Stock → List Kept
+abbrev pub held_in : Stock → List Segment
 held_in stock = kept_of stock.recent.entries
 
 -- those of a number, from a place among them on
-abbrev pub left_from : ℕ → ℕ → Stock → List Kept
+abbrev pub left_from : ℕ → ℕ → Stock → List Segment
 left_from number place stock = kept_of (drop place (entries_of_number number stock.recent.entries))
 
 -- ---- what always holds
@@ -58,7 +58,7 @@ IsFound image number stock here found = MatchOption found (IsStale image (held_i
 
 -- a segment lies ahead, the first of its number, and it is known whether it serves: parts were asked at most as often
 -- as it has reads
-pub record IsAhead (image : Image) (number : ℕ) (stock : Stock) (here : Bus) (serves : Bool)
+pub record LiesAhead (image : Image) (number : ℕ) (stock : Stock) (here : Bus) (serves : Bool)
     (asks later : ℕ) : Type 0 where
   pub entry : ℕ × Placed
   pub next : slice_get stock.recent.ahead 0 ≡ Some entry
@@ -71,4 +71,4 @@ pub record IsAhead (image : Image) (number : ℕ) (stock : Stock) (here : Bus) (
 abbrev pub LooksAhead : Image → ℕ → Stock → Bus → Option Bool → ℕ → ℕ → Type 0
 LooksAhead image number stock here answer asks later =
     MatchOption answer ((slice_get stock.recent.ahead 0 ≡ None) × (later ≡ asks))
-    (λ serves. IsAhead image number stock here serves asks later)
+    (λ serves. LiesAhead image number stock here serves asks later)

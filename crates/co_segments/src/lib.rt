@@ -6,8 +6,8 @@
 #![tactic(auto, using(image_parts::proofs::RecordLemmas::record_laws))]
 
 mod finding;
-mod given;
 mod numbered_bus;
+mod numbers_given;
 mod reached;
 mod rejoining;
 mod segment;

@@ -6,8 +6,8 @@ ghost use Rattle.co_segments.specs.Placed.{AreComparable, IsStart, Learns, place
 ghost use Rattle.co_segments.specs.Segments.{Serves};
 ghost use Rattle.co_segments.specs.Sights.{AreSightsOf};
 
-use crate::given::Given;
 use crate::numbered_bus::NumberedBus;
+use crate::numbers_given::NumbersGiven;
 use crate::sight::Sight;
 use base::Shared;
 use bus_devices::Apart;
@@ -146,7 +146,7 @@ impl Segment {
         &self,
         alloc: Global,
         look: &mut Look,
-        given: &mut Given,
+        given: &mut NumbersGiven,
         number: u64,
         state: &NumberedBus,
         parts: &mut P,

@@ -229,7 +229,7 @@ fn pass_on<P: Parts>(
         (progress stock.old telling.old meter.old parts.old)
         (progress stock.new telling.new meter.new parts.new) result }
 {
-    stock.recent.settle()?;
+    stock.recent.give_up_ahead()?;
     let end = search(stock, telling, number, from, here, parts, meter)?;
     Ok(end)
 }

@@ -1,6 +1,6 @@
 //! What a store holds.
 
-use crate::given::Given;
+use crate::numbers_given::NumbersGiven;
 use crate::segment::Segment;
 use kept_values::Recent;
 use std::alloc::Global;
@@ -13,5 +13,5 @@ pub(crate) struct Stock {
     /// The segments.
     pub recent: Recent<Segment>,
     /// How many private numbers were given.
-    pub given: Given,
+    pub given: NumbersGiven,
 }

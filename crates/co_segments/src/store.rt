@@ -6,12 +6,12 @@ ghost use Rattle.can_bus.specs.Runs.{is_shown, trace as trace_of};
 ghost use Rattle.can_bus.specs.declared.line.Line.{Line as Told};
 ghost use Rattle.image_parts.specs.Images.{IsImage};
 ghost use Rattle.co_segments.specs.Advances.{Traces};
-ghost use Rattle.co_segments.specs.Segments.{HasRun, IsValidOnce, Kept, Traced, recorded_from};
+ghost use Rattle.co_segments.specs.Segments.{HasRun, IsValidOnce, Segment, Traced, recorded_from};
 ghost use Rattle.co_segments.specs.Stocks.{AreSegments};
 ghost use Rattle.trace_spans.specs.Spans.{lines_of_spans};
 ghost use Rattle.kept_values.specs.Work.{Rises};
 
-use crate::given::Given;
+use crate::numbers_given::NumbersGiven;
 use crate::reached::Reached;
 use crate::serving::{advance, give};
 use crate::stock::Stock;
@@ -107,7 +107,7 @@ impl Store {
             stock: Stock {
                 alloc,
                 recent,
-                given: Given {
+                given: NumbersGiven {
                     buses: 0,
                     contents: 0,
                 },
@@ -180,7 +180,7 @@ impl Store {
     /// How many segments it holds. Each of them is valid, and has each of its reads once.
     pub fn held(&self) -> usize
         ensures count { result ≡ length self.now.segments }
-        ensures sound { (kept : Kept) → Contains self.now.segments kept → IsValidOnce kept }
+        ensures sound { (kept : Segment) → Contains self.now.segments kept → IsValidOnce kept }
     {
         self.stock.recent.len()
     }

@@ -15,7 +15,7 @@ use Rattle.device_agenda.specs.Deaf.{IsDeafTo, IsIdleSync}
 use Rattle.device_agenda.proofs.RestLemmas.{sent_rests}
 use Rattle.device_agenda.specs.Agenda.{IsAgendaOf, Sleeps}
 use Rattle.device_agenda.specs.LowBytes.{IsDeafBeyond}
-use Rattle.device_agenda.specs.declared.agenda.Agenda.{Agenda as Plan}
+use Rattle.device_agenda.specs.declared.agenda.Agenda.{Agenda as DeviceAgenda}
 use Rattle.device_agenda.specs.declared.groups.Groups.{Groups}
 use Rattle.device_agenda.specs.declared.low_bytes.LowBytes.{LowBytes}
 use Rattle.device_agenda.specs.declared.schedule.Schedule.{Schedule}
@@ -61,11 +61,11 @@ pub silent_where_none : (d : Device) (found : Option Contender) → IsWinner (co
     → is_some found ≡ false → d.waiting ≡ []
 silent_where_none d found h e = none_waits d.number d.waiting found h e
 
-pub due_of : (a : Plan) (d : Device) → IsAgendaOf a (d ∷ []) → a.awake ≡ false → a.due ≡ next_due d
+pub due_of : (a : DeviceAgenda) (d : Device) → IsAgendaOf a (d ∷ []) → a.awake ≡ false → a.due ≡ next_due d
 unfolding next_due
 due_of a d plan e = plan.due e ∙ ap earliest (append-nil (moments d))
 
-pub plan_of : (a : Plan) (d : Device) → Sleeps a.groups d → a.due ≡ next_due d → (a.waits ≡ false → d.waiting ≡ [])
+pub plan_of : (a : DeviceAgenda) (d : Device) → Sleeps a.groups d → a.due ≡ next_due d → (a.waits ≡ false → d.waiting ≡ [])
     → IsAgendaOf a (d ∷ [])
 unfolding next_due
 plan_of a d sleeps due silent = record {
@@ -74,7 +74,7 @@ plan_of a d sleeps due silent = record {
   silent = λ e. (silent e, tt);
 }
 
-pub not_spent : (a : Plan) (d : Device) → IsAgendaOf a (d ∷ []) → a.awake ≡ false → d.spent ≡ false
+pub not_spent : (a : DeviceAgenda) (d : Device) → IsAgendaOf a (d ∷ []) → a.awake ≡ false → d.spent ≡ false
 not_spent a d plan e = (plan.asleep e).0.unspent
 
 -- ---- once a frame is sent
@@ -120,7 +120,7 @@ module _ (frames : List Waiting) (d : Device) where
   pub sent_deaf_beyond : (bytes : LowBytes) → IsDeafBeyond bytes d → IsDeafBeyond bytes (record d { waiting = frames })
   sent_deaf_beyond bytes h = record { deaf = λ frame bound e. sent_deaf frame (h.deaf frame bound e) }
 
-  pub sent_plan : (a : Plan) (waits : Bool) → IsAgendaOf a (d ∷ []) → (waits ≡ false → frames ≡ [])
+  pub sent_plan : (a : DeviceAgenda) (waits : Bool) → IsAgendaOf a (d ∷ []) → (waits ≡ false → frames ≡ [])
       → IsAgendaOf (record a { waits = waits }) (record d { waiting = frames } ∷ [])
   sent_plan a waits plan silent = record {
     due = plan.due;
@@ -128,7 +128,7 @@ module _ (frames : List Waiting) (d : Device) where
     silent = λ e. (silent e, tt);
   }
 
-pub sent_agenda : (a : Plan) (d e : Device) (frames : List Waiting) (found : Option Contender) (waits : Bool)
+pub sent_agenda : (a : DeviceAgenda) (d e : Device) (frames : List Waiting) (found : Option Contender) (waits : Bool)
     → IsAgendaOf a (d ∷ []) → e ≡ record d { waiting = frames }
     → IsWinner (contenders_of (e.number, e.waiting)) found → waits ≡ is_some found
     → IsAgendaOf (record a { waits = waits }) (e ∷ [])

@@ -17,7 +17,7 @@ use Rattle.device_agenda.specs.Agenda.{IsAgendaOf, Sleeps, at_instant, hears, sl
 use Rattle.device_agenda.specs.Delivered.{Delivered}
 use Rattle.device_agenda.specs.Groups.{includes}
 use Rattle.device_agenda.specs.LowBytes.{AreDeafBeyond, IsDeafBeyond, has_low_byte, has_low_byte_of, sleeps_on}
-use Rattle.device_agenda.specs.declared.agenda.Agenda.{Agenda as Plan}
+use Rattle.device_agenda.specs.declared.agenda.Agenda.{Agenda as DeviceAgenda}
 use Rattle.device_agenda.specs.declared.groups.Groups.{Groups}
 use Rattle.device_agenda.specs.declared.low_bytes.LowBytes.{LowBytes}
 use Rattle.device_agenda.proofs.AgendaLemmas.{all_later}
@@ -93,16 +93,16 @@ is_not : (x : Bool) → not x ≡ true → x ≡ false
 is_not true h = absurd cc
 is_not false h = refl
 
-moments_later : (a : Plan) (ds : List Device) (t : ℕ) → IsAgendaOf a ds → a.awake ≡ false → has_come t a.due ≡ false
+moments_later : (a : DeviceAgenda) (ds : List Device) (t : ℕ) → IsAgendaOf a ds → a.awake ≡ false → has_come t a.due ≡ false
     → AllByRecursion (λ m. t < m) (flat_map moments ds)
 moments_later a ds t plan asleep e = all_later t (flat_map moments ds) (ap (has_come t) (sym (plan.due asleep)) ∙ e)
 
 -- what sleeps isn't awake
-pub not_awake : (a : Plan) (t : ℕ) (delivered : Option Delivered) → sleeps_through t delivered a ≡ true
+pub not_awake : (a : DeviceAgenda) (t : ℕ) (delivered : Option Delivered) → sleeps_through t delivered a ≡ true
     → a.awake ≡ false
 not_awake a t delivered e = (first_not a.awake (not (has_come t a.due) && not (stirs a.groups delivered)) e).0
 
-pub nothing_happens : (a : Plan) (ds : List Device) (t : ℕ) (delivered : Option Delivered)
+pub nothing_happens : (a : DeviceAgenda) (ds : List Device) (t : ℕ) (delivered : Option Delivered)
     → IfSome delivered (λ d. d.frame.id < 0x800)
     → IsAgendaOf a ds → sleeps_through t delivered a ≡ true
     → AllByRecursion (λ d. at_instant t delivered d ≡ Answer d) ds
@@ -112,7 +112,7 @@ nothing_happens a ds t delivered bound plan e =
     all_quiet t a.groups delivered bound (is_not (stirs a.groups delivered) early.1) ds (plan.asleep asleep.0)
     (moments_later a ds t plan asleep.0 early.0)
 
-pub nothing_reaches : (a : Plan) (bytes : LowBytes) (ds : List Device) (t : ℕ) (delivered : Option Delivered)
+pub nothing_reaches : (a : DeviceAgenda) (bytes : LowBytes) (ds : List Device) (t : ℕ) (delivered : Option Delivered)
     → IfSome delivered (λ d. d.frame.id < 0x800)
     → IsAgendaOf a ds → AreDeafBeyond bytes ds → sleeps_on t delivered bytes a ≡ true
     → AllByRecursion (λ d. at_instant t delivered d ≡ Answer d) ds
@@ -124,14 +124,14 @@ nothing_reaches a bytes ds t delivered bound plan deaf e =
     (moments_later a ds t plan asleep.0 early.0)
 
 -- what sleeps on isn't awake
-sleeps_on_asleep : (a : Plan) (bytes : LowBytes) (t : ℕ) (delivered : Option Delivered)
+sleeps_on_asleep : (a : DeviceAgenda) (bytes : LowBytes) (t : ℕ) (delivered : Option Delivered)
     → sleeps_on t delivered bytes a ≡ true → a.awake ≡ false
 sleeps_on_asleep a bytes t delivered e = (first_not a.awake
     (not (has_come t a.due) && not (stirs a.groups delivered && has_low_byte bytes delivered)) e).0
 
 -- ---- the one device of an agenda
 
-module _ (a : Plan) (d : Device) (t : ℕ) (delivered : Option Delivered) (plan : IsAgendaOf a (d ∷ [])) where
+module _ (a : DeviceAgenda) (d : Device) (t : ℕ) (delivered : Option Delivered) (plan : IsAgendaOf a (d ∷ [])) where
   pub one_sleeps : IfSome delivered (λ x. x.frame.id < 0x800) → sleeps_through t delivered a ≡ true
       → at_instant t delivered d ≡ Answer d
   one_sleeps bound e = (nothing_happens a (d ∷ []) t delivered bound plan e).0

@@ -9,7 +9,7 @@ pub record Delivered : Type 0 where
   pub frame : BaseFrame
 
 -- its identifier has 11 bits, and these are its group and its low byte
-pub record IsInGroup (delivered : Delivered) (number low : ℕ) : Type 0 where
+pub record HasGroupAndLowByte (delivered : Delivered) (number low : ℕ) : Type 0 where
   pub identifier : delivered.frame.id < 0x800
   pub group : number ≡ group_of delivered.frame.id
   pub low_byte : low ≡ delivered.frame.id % 256

@@ -19,13 +19,13 @@ pub struct Delivery {
 }
 
 impl Model for Delivery {
-    ghost use Rattle.device_agenda.specs.Delivered.{Delivered, IsInGroup};
+    ghost use Rattle.device_agenda.specs.Delivered.{Delivered, HasGroupAndLowByte};
 
     ghost Value = { Delivered };
 
     ghost view = { λ d. record { sender = d.sender; frame = d.frame } };
 
-    ghost invariant = { λ d. IsInGroup (record { sender = d.sender; frame = d.frame }) d.group d.low };
+    ghost invariant = { λ d. HasGroupAndLowByte (record { sender = d.sender; frame = d.frame }) d.group d.low };
 }
 
 impl Delivery {

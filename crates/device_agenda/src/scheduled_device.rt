@@ -288,19 +288,26 @@ impl ScheduledDevice {
         Ok(sent)
     }
 
-    /// Switches the power of the device at the moment t. Where it is as it was, nothing changes.
+    /// Switches the power of the device at the moment t. Where it is as it was, nothing changes, and no memory is
+    /// taken.
+    #[tactic(auto, unfolding(co_device::specs::Device::after_power))]
     pub fn power<P: Shapes>(&mut self, on: bool, t: u64, shapes: &mut P) -> Result<(), AllocError>
         requires { t < END }
         ensures ran { OnOk result (GoesBy (after_power on t self.old) self.new P.seen P.asks shapes.old shapes.new) }
         ensures lasts { Lasts (P.seen shapes.old) (P.seen shapes.new) }
     {
+        if self.schedule.device.has_power() == on {
+            return Ok(());
+        }
         let schedule = unshare(&mut self.schedule)?;
         schedule.agenda = Agenda::unknown();
         schedule.device.power(on, t, shapes)
     }
 
     /// The application of the device sets an entry at the moment t, whatever its access and limits; without
-    /// power nothing happens. The index isn't one of 1400h to 1BFFh, and the value has at most 512 bytes.
+    /// power nothing happens, and no memory is taken. The index isn't one of 1400h to 1BFFh, and the value has at most
+    /// 512 bytes.
+    #[tactic(auto, unfolding(co_device::specs::Device::after_set))]
     pub fn set(
         &mut self,
         t: u64,
@@ -313,6 +320,9 @@ impl ScheduledDevice {
         requires short { length bytes.now ≤ longest_value }
         ensures state { OnOk result (self.new ≡ after_set t (index, sub) bytes.now self.old) }
     {
+        if !self.schedule.device.has_power() {
+            return Ok(());
+        }
         let schedule = unshare(&mut self.schedule)?;
         schedule.agenda = Agenda::unknown();
         schedule.device.set(t, index, sub, bytes)

@@ -12,5 +12,6 @@ mod text;
 mod values;
 mod written;
 
+pub use eds_device::DataSheet as Device;
 pub use template::Template;
 pub use text::dcf_text;

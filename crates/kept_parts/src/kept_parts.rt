@@ -6,7 +6,7 @@ ghost use Rattle.kept_values.specs.Stale.{AreBrought};
 ghost use Rattle.kept_values.specs.Work.{Rises};
 ghost use Rattle.co_project.specs.Project.{Content};
 ghost use Rattle.project_parts.specs.Given.{inputs_of, same_part};
-ghost use Rattle.project_parts.specs.Made.{concise_made, dcf_made, plan_made};
+ghost use Rattle.project_parts.specs.Made.{concise_made, dcf_made, plan_made, written_made};
 ghost use Rattle.project_parts.specs.Reached.{parts_for, reached_by_trace, IsPart};
 ghost use Rattle.kept_parts.specs.Kept.{kept_inputs, IsCurrent, IsOf};
 ghost use Rattle.kept_parts.specs.Left.{left_of, IsSwept};
@@ -125,6 +125,13 @@ impl KeptParts {
         ensures { option_copied result ≡ option_map plan_made self.now.plan.kept }
     {
         self.plan.value()
+    }
+
+    /// The writes of a node that are kept, with its device.
+    pub fn writes(&self, node: u8) -> Option<&DeviceWrites>
+        ensures { option_copied result ≡ option_map written_made (kept_at self.now.writes node) }
+    {
+        self.writes.value(node)
     }
 
     /// The concise DCF (CiA 302) of a node that is kept, with the reply that shows it.

@@ -5,7 +5,7 @@ use Rattle.std.specs.List.{position_or_len, remove}
 use Rattle.std.proofs.lemmas.Bool.Decides.{nat_tests}
 use Rattle.std.proofs.lemmas.List.{get_or-map, get_or-set_other, get_or-set_same, get_or_past, length-map, map-set}
 use Rattle.std.specs.Prelude.{Result, Ok, Err, OnErr}
-use Rattle.kept_values.specs.Numbers.{Changes, HasSameKeys, keys_under, without}
+use Rattle.kept_values.specs.Numbers.{Changes, HasSameKeys, keys_under, without_key}
 
 same_number : (n i : ℕ) → nat_eq n i ≡ true → n ≡ i
 same_number n i h = grind (arith, nat_tests)
@@ -73,7 +73,7 @@ module _ {K : Type 0} (items : K → List ℕ) (xs : List K) (i : ℕ) (change :
   ]) refl
 
 -- a key that is there is taken out at its place
-pub without_there : (key : ℕ) (keys : List ℕ) → position_or_len (nat_eq key) keys < length keys → without key keys ≡ remove keys (position_or_len (nat_eq key) keys)
+pub without_there : (key : ℕ) (keys : List ℕ) → position_or_len (nat_eq key) keys < length keys → without_key key keys ≡ remove keys (position_or_len (nat_eq key) keys)
 without_there key keys h =
     let e : nat_lt (position_or_len (nat_eq key) keys) (length keys) ≡ true = grind (arith, nat_tests) in
     rw e refl

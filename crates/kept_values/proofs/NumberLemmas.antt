@@ -9,7 +9,7 @@ use Rattle.std.proofs.lemmas.List.Elements.{filter-append}
 use Rattle.std.proofs.lemmas.Map.Views.{lookup-from_Contains}
 use Rattle.std.proofs.lemmas.Option.{get_or_from_slice_get, none-some, same_Some, slice_get-get_or, slice_get-map, slice_get_within}
 use Rattle.lru.specs.LruCache.{last_entry}
-use Rattle.kept_values.specs.Numbers.{Changes, HasSameKeys, IsIndexOf, keys_under, of_number, without}
+use Rattle.kept_values.specs.Numbers.{Changes, HasSameKeys, IsIndexOf, keys_under, of_number, without_key}
 use Rattle.kept_values.proofs.EntryLemmas.{flip, head_in, in_cons, tail_in}
 use Rattle.kept_values.proofs.IndexLemmas.{without_there}
 
@@ -168,21 +168,21 @@ module _ {V : Type 0} (number_of : V → ℕ) (key n : ℕ) where
         ]) refl
   ]) refl
 
-  kept_keys : (es : List (ℕ × V)) (v : V) → lookup (nat_eq key) es ≡ Some v → (if nat_eq (number_of v) n then without key (keys es) else keys es) ≡ keys (remove_entry (nat_eq key) es)
+  kept_keys : (es : List (ℕ × V)) (v : V) → lookup (nat_eq key) es ≡ Some v → (if nat_eq (number_of v) n then without_key key (keys es) else keys es) ≡ keys (remove_entry (nat_eq key) es)
   unfolding keys place
   kept_keys es v h =
-      (elim (nat_eq (number_of v) n) as (λ t. nat_eq (number_of v) n ≡ t → (if t then without key (keys es) else keys es) ≡ keys (remove_entry (nat_eq key) es)) [
+      (elim (nat_eq (number_of v) n) as (λ t. nat_eq (number_of v) n ≡ t → (if t then without_key key (keys es) else keys es) ≡ keys (remove_entry (nat_eq key) es)) [
         | true ↦ λ t. let is = there es v h t in without_there key (keys es) is.within ∙ sym is.rest
         | false ↦ λ t. sym (others es v h t)
       ]) refl
 
 module _ {V : Type 0} (number_of : V → ℕ) where
-  pub index_taken : (es : List (ℕ × V)) (old new : List (List ℕ)) (key number : ℕ) (v : V) → lookup (nat_eq key) es ≡ Some v → number ≡ number_of v → Changes number (without key) old new → IsIndexOf number_of es old → IsIndexOf number_of (remove_entry (nat_eq key) es) new
+  pub index_taken : (es : List (ℕ × V)) (old new : List (List ℕ)) (key number : ℕ) (v : V) → lookup (nat_eq key) es ≡ Some v → number ≡ number_of v → Changes number (without_key key) old new → IsIndexOf number_of es old → IsIndexOf number_of (remove_entry (nat_eq key) es) new
   unfolding IsIndexOf Changes keys
   index_taken es old new key number v found is ch h n =
       ch n
-      ∙ ap (λ t. if t then without key (keys_under n old) else keys_under n old) (is_of number_of n number v is)
-      ∙ ap (λ l. if nat_eq (number_of v) n then without key l else l) (h n)
+      ∙ ap (λ t. if t then without_key key (keys_under n old) else keys_under n old) (is_of number_of n number v is)
+      ∙ ap (λ l. if nat_eq (number_of v) n then without_key key l else l) (h n)
       ∙ kept_keys number_of key n es v found
 
 -- ---- what stands at a place

@@ -25,5 +25,5 @@ unfoldable pub HasSameKeys : List (List ℕ) → List (List ℕ) → Type 0
 HasSameKeys old new = (n : ℕ) → keys_under n new ≡ keys_under n old
 
 -- a key is taken out, if it is there
-abbrev pub without : ℕ → List ℕ → List ℕ
-without key keys = option_map_or (λ place. remove keys place) (position (nat_eq key) keys) keys
+abbrev pub without_key : ℕ → List ℕ → List ℕ
+without_key key keys = option_map_or (λ place. remove keys place) (position (nat_eq key) keys) keys

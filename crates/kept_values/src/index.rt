@@ -2,7 +2,7 @@
 
 ghost use Rattle.std.specs.Prelude.{◌≡◌, ◌<◌, ◌-◌, ◌∷◌, [], length, map, take, drop, nat_eq, slice_get, IfSome, OnErr, OnOk};
 ghost use Rattle.std.specs.List.{position};
-ghost use Rattle.kept_values.specs.Numbers.{Changes, HasSameKeys, keys_under, without};
+ghost use Rattle.kept_values.specs.Numbers.{Changes, HasSameKeys, keys_under, without_key};
 
 use std::alloc::{AllocError, Global};
 use std::marker::Model;
@@ -43,7 +43,7 @@ fn place_of(keys: &[u64], key: u64) -> Option<usize>
 
 /// Takes a key out, if it is there.
 fn take_out(keys: &mut Vec<u64>, key: u64)
-    ensures { keys.new.items ≡ without key keys.old.items }
+    ensures { keys.new.items ≡ without_key key keys.old.items }
 {
     let place = place_of(keys, key);
     if let Some(place) = place {
@@ -138,7 +138,7 @@ impl Index {
 
     /// Takes a key out from those of its number.
     pub fn take_out(&mut self, number: u64, key: u64)
-        ensures { Changes number (without key) self.old self.new }
+        ensures { Changes number (without_key key) self.old self.new }
     {
         let place = number as usize;
         if place < self.keys.len() {

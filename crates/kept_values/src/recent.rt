@@ -93,7 +93,7 @@ impl<V: Numbered + Drop> Recent<V> {
 
     /// Gives up what lies ahead: it stays, in its order, to be found by number. Takes time by its length. Want of
     /// memory is the only error; then values may be gone.
-    pub fn settle(&mut self) -> Result<(), AllocError>
+    pub fn give_up_ahead(&mut self) -> Result<(), AllocError>
         ensures ok { OnOk result (self.new ≡ record self.old { ahead = [] }) }
         ensures fewer { (e : ℕ × V) → Contains self.new.entries e → Contains self.old.entries e }
         ensures capacity { self.new.capacity ≡ self.old.capacity }

@@ -42,9 +42,11 @@ use Rattle.pdo_links.proofs.Sizes.{few_rpdos, few_tpdos}
 use Rattle.pdo_links.proofs.VendorSizes.{few_vendor_rpdos, few_vendor_tpdos}
 use Rattle.pdo_stations.specs.declared.as_made.AsMade.{AsMade}
 use Rattle.pdo_links.specs.PdoWrites.{rpdo_of, tpdo_of}
-use Rattle.pdo_plan.specs.declared.clean.Clean.{Clean}
-use Rattle.pdo_plan.specs.declared.consumer.Consumer.{Consumer}
-use Rattle.pdo_plan.specs.Plan.{clean, had_by, IsNumbered, IsWithin}
+use Rattle.pdo_choices.specs.declared.clean.Clean.{Clean}
+use Rattle.pdo_choices.specs.declared.consumer.Consumer.{Consumer}
+use Rattle.pdo_plan.specs.Plan.{clean}
+use Rattle.pdo_choices.specs.Had.{had_by}
+use Rattle.pdo_choices.specs.Limits.{IsNumbered, IsWithin}
 use Rattle.pdo_plan.proofs.ChainLemmas.{all_clean, each_within}
 use Rattle.pdo_plan.proofs.JudgedLemmas.{clean_within}
 use Rattle.pdo_stations.specs.Devices.{as_made, Devices, devices_of}

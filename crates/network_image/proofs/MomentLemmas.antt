@@ -7,7 +7,7 @@ use Rattle.std.proofs.lemmas.Bool.Decides.{nat_tests}
 use Rattle.std.proofs.lemmas.Bool.{eq-eqb}
 use Rattle.std.proofs.lemmas.List.Folds.{prefix_len-append}
 use Rattle.std.proofs.Math.Seq.{drop-append_seam, take-append_seam}
-use Rattle.pdo_plan.proofs.LimitLemmas.{between}
+use Rattle.pdo_choices.proofs.RangeLemmas.{between}
 use Rattle.co_scenario.specs.Scenario.{events_between, Events, HasEventBetween}
 use Rattle.co_scenario.proofs.PieceLemmas.{pieces}
 use Rattle.co_scenario.specs.declared.timed_step.TimedStep.{TimedStep}

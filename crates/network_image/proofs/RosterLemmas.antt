@@ -14,7 +14,7 @@ use Rattle.std.proofs.lemmas.List.Elements.{All-contains_itself, All-head, All-t
 use Rattle.std.proofs.lemmas.Map.Lookups.{exact_unsigned}
 use Rattle.std.proofs.lemmas.Map.Views.{Contains-from_any}
 use Rattle.base.proofs.EachLemmas.{all_entries, first_part, second_part}
-use Rattle.pdo_plan.proofs.LimitLemmas.{between}
+use Rattle.pdo_choices.proofs.RangeLemmas.{between}
 use Rattle.base.specs.Ranges.{is_between}
 use Rattle.project_edits.specs.Edits.{AreTimeStamps, IsManager}
 use Rattle.project_edits.specs.Stamps.{first_day_of, period_of}

@@ -15,7 +15,7 @@ use Rattle.std.proofs.lemmas.Bool.Decides.{nat_tests}
 use Rattle.std.proofs.lemmas.List.Elements.{All-contains_itself, recursion_from_All}
 use Rattle.base.proofs.EachLemmas.{each_found}
 use Rattle.base.specs.Ranges.{is_between}
-use Rattle.pdo_plan.proofs.LimitLemmas.{between}
+use Rattle.pdo_choices.proofs.RangeLemmas.{between}
 use Rattle.co_values.specs.Types.{form, is_modelled_form, len_of_form, octets}
 use Rattle.co_values.specs.declared.form.Form.{Form}
 use Rattle.co_values.specs.declared.form.Width.{Width}

@@ -24,7 +24,7 @@ use Rattle.sdo_client.specs.declared.progress.Progress.TheVariants as progress
 use Rattle.sdo_client.specs.declared.client_transfer.ClientTransfer.{ClientTransfer as Transfer}
 use Rattle.device_agenda.specs.Agenda.{hears}
 use Rattle.nmt_boot.proofs.EventLemmas.{answered_reads, boots_reads}
-use Rattle.nmt_boot.specs.Manager.{Manager, after_boot_up, is_boot_up, after_frame, after_sdo_frame}
+use Rattle.nmt_boot.specs.Manager.{Manager, after_boot_up, has_boot_up_byte, after_frame, after_sdo_frame}
 use Rattle.manager_nodes.specs.Table.{node_at, place_of}
 use Rattle.node_boot.specs.Boot.{after_compare, after_write, boot_nmt_slave, check_identity, compared_next}
 use Rattle.node_boot.specs.Boot.{download_configuration, is_as_expected, next_compared, sdo_answer}
@@ -128,7 +128,7 @@ module _ (image : Image) (t : ℕ) (slot : Slot) (m : Manager) where
       answer_reads Failed at = tt
 
   boot_up_reads : (place : Option ℕ) → place_of (error_control_id 0) slot.frame.id m.nodes ≡ place
-      → is_boot_up slot.frame.bytes ≡ true → AreFor R (reads (after_boot_up t place m) image)
+      → has_boot_up_byte slot.frame.bytes ≡ true → AreFor R (reads (after_boot_up t place m) image)
   unfolding after_boot_up
   boot_up_reads None e b = tt
   boot_up_reads (Some k) e b =
@@ -147,7 +147,7 @@ module _ (image : Image) (t : ℕ) (slot : Slot) (m : Manager) where
   manager_reads : AreFor R (reads (after_frame t slot.frame m) image)
   unfolding after_frame
   manager_reads =
-      picked image R (is_boot_up slot.frame.bytes) _ _
+      picked image R (has_boot_up_byte slot.frame.bytes) _ _
       (λ b. boot_up_reads (place_of (error_control_id 0) slot.frame.id m.nodes) refl b)
       (λ other. picked image R (length slot.frame.bytes == 8) _ _
       (λ whole. sdo_reads (place_of (sdo_answer_id 0) slot.frame.id m.nodes) refl) (λ short. tt))

@@ -11,7 +11,7 @@ use Rattle.image_parts.specs.Each.{each}
 use Rattle.network_laws.proofs.NodeLemmas.{command_leaves}
 use Rattle.network_laws.proofs.OwnLemmas.{command_owns, frame_owns as manager_frame_owns}
 use Rattle.network_laws.proofs.OwnLemmas.{frame_stays as manager_frame_stays, timers_own, timers_stay}
-use Rattle.network_laws.specs.Requests.{HasOwnFrames as ManagerOwns, StaysManager, requests_to}
+use Rattle.network_laws.specs.Requests.{HasManagerFrames as ManagerOwns, StaysManager, requests_to}
 use Rattle.bus_devices.proofs.EventLemmas.{happens_nmt, happens_set, outcome_events, outcome_power}
 use Rattle.bus_devices.specs.Events.{after_event, after_events_at, after_power_at, after_set_at}
 use Rattle.bus_devices.specs.Places.{device_at}

@@ -26,6 +26,7 @@ pub mod TurnLemmas
 pub mod GoodLemmas
 pub mod StartLemmas
 pub mod RunLemmas
+pub mod StampLemmas
 pub mod FileLemmas
 pub mod NoteLemmas
 pub mod LastLemmas

@@ -23,7 +23,7 @@ use Rattle.node_boot.specs.declared.boot_stage.BootStage.TheVariants.{Failed}
 use Rattle.node_boot.specs.declared.boot_step.BootStep.{BootStep}
 use Rattle.nmt_boot.proofs.EventLemmas.{answered_outcome, boots_outcome}
 use Rattle.nmt_boot.proofs.PeriodicLemmas.{queue_has}
-use Rattle.nmt_boot.specs.Manager.{Manager, after_boot_up, after_frame, after_sdo_frame, after_step, is_boot_up}
+use Rattle.nmt_boot.specs.Manager.{Manager, after_boot_up, after_frame, after_sdo_frame, after_step, has_boot_up_byte}
 use Rattle.nmt_boot.specs.Periodic.{frame_of, purpose_of, queue_after}
 use Rattle.nmt_boot.specs.declared.periodic.Periodic.{Periodic}
 use Rattle.nmt_boot.specs.declared.periodic_message.PeriodicMessage.{PeriodicMessage}
@@ -70,8 +70,8 @@ module _ (base id : ℕ) (nodes : List Booting) where
 
 -- ---- boot-up messages
 
-boot_bytes : (bytes : List ℕ) → bytes ≡ 0 ∷ [] → is_boot_up bytes ≡ true
-unfolding is_boot_up
+boot_bytes : (bytes : List ℕ) → bytes ≡ 0 ∷ [] → has_boot_up_byte bytes ≡ true
+unfolding has_boot_up_byte
 boot_bytes bytes e = rw e refl
 
 -- ---- one node of the table
@@ -138,7 +138,7 @@ module _ (m : Manager) (i : ℕ) (own : IsAlone m.nodes i) where
 
     module _ (no_boot_up : IsBootUp n frame → ⊥) where
       by_boot_up : (o : Option ℕ) → place_of (error_control_id 0) frame.id m.nodes ≡ o
-          → is_boot_up frame.bytes ≡ true → Goes (outcome (after_boot_up t o m) image).0
+          → has_boot_up_byte frame.bytes ≡ true → Goes (outcome (after_boot_up t o m) image).0
       unfolding after_boot_up
       by_boot_up None e b = inr stays
       by_boot_up (Some k) e b = rw (boots_outcome t k m image) (by (cases_eq i k))
@@ -185,7 +185,7 @@ module _ (m : Manager) (i : ℕ) (own : IsAlone m.nodes i) where
 
       pub frame_goes : Goes (outcome (after_frame t frame m) image).0
       unfolding after_frame
-      frame_goes = first (is_boot_up frame.bytes) refl
+      frame_goes = first (has_boot_up_byte frame.bytes) refl
         where
           second : (b : Bool)
               → Goes (outcome (if b
@@ -194,7 +194,7 @@ module _ (m : Manager) (i : ℕ) (own : IsAlone m.nodes i) where
           second true = by_answer (place_of (sdo_answer_id 0) frame.id m.nodes) refl
           second false = inr stays
 
-          first : (b : Bool) → is_boot_up frame.bytes ≡ b
+          first : (b : Bool) → has_boot_up_byte frame.bytes ≡ b
               → Goes (outcome (if b then after_boot_up t (place_of (error_control_id 0) frame.id m.nodes) m
               else if length frame.bytes == 8
               then after_sdo_frame t frame.bytes (place_of (sdo_answer_id 0) frame.id m.nodes) m

@@ -39,7 +39,7 @@ use Rattle.manager_nodes.specs.Table.{sdo_frames, timed_out, unseen_node}
 use Rattle.nmt_boot.specs.Manager.{with_command}
 use Rattle.manager_nodes.specs.Table.{with_stage}
 use Rattle.manager_nodes.specs.declared.booting.Booting.{Booting}
-use Rattle.network_laws.specs.Requests.{HasOwnFrames, IsManagersFrame, StaysManager, numbers_of}
+use Rattle.network_laws.specs.Requests.{HasManagerFrames, IsManagersFrame, StaysManager, numbers_of}
 use Rattle.cia301.specs.Limits.{IsNodeNumber}
 
 -- ---- the table
@@ -184,13 +184,13 @@ found_within base id nodes k e = (position-Some (is_from base id) nodes k no_nod
 pub command_stays : (c : NmtCommand) (node : ℕ) (m : Manager) → StaysManager m (with_command c node m)
 command_stays c node m = record { number = refl; numbers = refl }
 
-pub command_owns : (c : NmtCommand) (node : ℕ) (m : Manager) → HasOwnFrames m → HasOwnFrames (with_command c node m)
+pub command_owns : (c : NmtCommand) (node : ℕ) (m : Manager) → HasManagerFrames m → HasManagerFrames (with_command c node m)
 command_owns c node m h = record {
   frames = more m.number m.waiting _ h.frames (one m.number _ refl);
   nodes = h.nodes;
 }
 
-pub sent_owns : (place : ℕ) (m : Manager) → HasOwnFrames m → HasOwnFrames (record m { waiting = remove m.waiting place })
+pub sent_owns : (place : ℕ) (m : Manager) → HasManagerFrames m → HasManagerFrames (record m { waiting = remove m.waiting place })
 sent_owns place m h = record { frames = removed_own m.number m.waiting place h.frames; nodes = h.nodes }
 
 pub frame_stays : (image : Image) (t : ℕ) (frame : BaseFrame) (m : Manager)
@@ -201,18 +201,18 @@ frame_stays image t frame m =
     (λ i e. record { number = refl; numbers = stage_set m.nodes i _ })
     (λ i e. record { number = refl; numbers = stage_set m.nodes i _ })
 
-stepped_owns : (m : Manager) → HasOwnFrames m → (k : ℕ) → k < length m.nodes → (step : BootStep) (ws : List Waiting)
-    → All (IsOwn m.number) ws → HasOwnFrames (after_step k step (record m { waiting = ws })).0
+stepped_owns : (m : Manager) → HasManagerFrames m → (k : ℕ) → k < length m.nodes → (step : BootStep) (ws : List Waiting)
+    → All (IsOwn m.number) ws → HasManagerFrames (after_step k step (record m { waiting = ws })).0
 stepped_owns m h k within step ws own = record {
   frames = step_owns m.number m.startup (with_stage m.nodes k step.stage) (node_at m.nodes k).number
       (All-get_or (λ (b : Booting). IsNodeNumber b.number) m.nodes k no_node within h.nodes) step ws own;
   nodes = renumbered m.nodes _ (stage_set m.nodes k step.stage) h.nodes;
 }
 
-pub frame_owns : (image : Image) (t : ℕ) (frame : BaseFrame) (m : Manager) → HasOwnFrames m
-    → HasOwnFrames (outcome (after_frame t frame m) image).0
+pub frame_owns : (image : Image) (t : ℕ) (frame : BaseFrame) (m : Manager) → HasManagerFrames m
+    → HasManagerFrames (outcome (after_frame t frame m) image).0
 frame_owns image t frame m h =
-    received_holds image t frame m (λ r read. HasOwnFrames r.0) h
+    received_holds image t frame m (λ r read. HasManagerFrames r.0) h
     (λ i e. stepped_owns m h i (found_within (error_control_id 0) frame.id m.nodes i e) _ _
     (dropped_own m.number (SdoOf (node_at m.nodes i).number) m.waiting h.frames))
     (λ i e. stepped_owns m h i (found_within (sdo_answer_id 0) frame.id m.nodes i e) _ m.waiting h.frames)
@@ -231,7 +231,7 @@ module _ (t : ℕ) where
   unfolding time_outs
   outs_stay m = record { number = refl; numbers = later_numbers t m.nodes }
 
-  outs_have : (m : Manager) → HasOwnFrames m → HasOwnFrames (time_outs t m).0
+  outs_have : (m : Manager) → HasManagerFrames m → HasManagerFrames (time_outs t m).0
   unfolding time_outs
   outs_have m h = record {
     frames = outs_own m.number t m.nodes h.nodes m.waiting h.frames;
@@ -242,7 +242,7 @@ module _ (t : ℕ) where
   unfolding timers
   timers_stay m = let stays = outs_stay m in record { number = stays.number; numbers = stays.numbers }
 
-  pub timers_own : (m : Manager) → HasOwnFrames m → HasOwnFrames (timers t m).0
+  pub timers_own : (m : Manager) → HasManagerFrames m → HasManagerFrames (timers t m).0
   unfolding timers
   timers_own m h =
       let own = outs_have m h in
@@ -263,7 +263,7 @@ unseen_numbered : (numbers : List ℕ) → AllByRecursion IsNodeNumber numbers
 unseen_numbered [] h = tt
 unseen_numbered (n ∷ numbers) h = (h.0, unseen_numbered numbers h.1)
 
-pub power_owns : (roster : Roster) → All IsNodeNumber roster.nodes → HasOwnFrames (manager_at_power_on roster)
+pub power_owns : (roster : Roster) → All IsNodeNumber roster.nodes → HasManagerFrames (manager_at_power_on roster)
 unfolding manager_at_power_on
 power_owns roster h = record {
   frames = one roster.manager _ (refl, refl);

@@ -4,7 +4,7 @@ use Rattle.std.proofs.Common.{◌≡◌, ◌≢◌, ℕ, zero, suc, ◌<◌, Boo
 use Rattle.std.proofs.Common.{◌⊎◌, inl, inr, refl, sym, ap, ◌∙◌, subst, arith, map, get_or, length}
 use Rattle.std.specs.List.{AllByRecursion}
 use Rattle.std.proofs.lemmas.List.{get_or-map, length-map}
-use Rattle.network_laws.specs.Requests.{HasOwnFrames as ManagerOwns, IsAlone, IsManagersFrame}
+use Rattle.network_laws.specs.Requests.{HasManagerFrames as ManagerOwns, IsAlone, IsManagersFrame}
 use Rattle.can_frame.specs.ErrorControl.{IsBootUp}
 use Rattle.cia301.specs.Limits.{IsNodeNumber}
 use Rattle.network_laws.specs.Requests.{numbers_of}

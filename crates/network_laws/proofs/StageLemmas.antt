@@ -22,7 +22,7 @@ use Rattle.node_boot.specs.Boot.{compared_next, next_compared, sdo_answer, sdo_t
 use Rattle.node_boot.specs.declared.boot_stage.BootStage.{BootStage}
 use Rattle.node_boot.specs.declared.boot_stage.BootStage.TheVariants.{Unseen, Comparing, Writing, Configured, Failed}
 use Rattle.nmt_boot.proofs.EventLemmas.{answered_outcome, boots_outcome}
-use Rattle.nmt_boot.specs.Manager.{Manager, after_boot_up, after_frame, after_sdo_frame, is_boot_up, time_outs, timers}
+use Rattle.nmt_boot.specs.Manager.{Manager, after_boot_up, after_frame, after_sdo_frame, has_boot_up_byte, time_outs, timers}
 use Rattle.manager_nodes.specs.Table.{is_from, no_node, node_after}
 use Rattle.manager_nodes.specs.Table.{node_at, place_of}
 use Rattle.manager_nodes.specs.declared.booting.Booting.{Booting}
@@ -100,8 +100,8 @@ module _ (base id : ℕ) (nodes : List Booting) (k : ℕ) (e : place_of base id 
   unfolding place_of
   found_is = sym (sum_is base (node_at nodes k).number id (position-Some (is_from base id) nodes k no_node e).1)
 
-pub is_boot : (bytes : List ℕ) → is_boot_up bytes ≡ true → bytes ≡ 0 ∷ []
-unfolding is_boot_up
+pub is_boot : (bytes : List ℕ) → has_boot_up_byte bytes ≡ true → bytes ≡ 0 ∷ []
+unfolding has_boot_up_byte
 is_boot [] e = cc
 is_boot (b ∷ []) e = ap (λ (x : ℕ). x ∷ []) (none b e)
   where
@@ -174,14 +174,14 @@ module _ (image : Image) (t i : ℕ) (heard : Option Slot) (n : Booting) (P : Bo
 
     module _ (slot : Slot) (there : heard ≡ Some slot) where
       boot_of : (k : ℕ) → place_of (error_control_id 0) slot.frame.id m.nodes ≡ Some k
-          → is_boot_up slot.frame.bytes ≡ true → i ≡ k → IsBootUpOf n.number heard
+          → has_boot_up_byte slot.frame.bytes ≡ true → i ≡ k → IsBootUpOf n.number heard
       boot_of k e b here =
           let id : slot.frame.id ≡ error_control_id n.number = found_is (error_control_id 0) slot.frame.id m.nodes k e
           ∙ ap (λ x. error_control_id 0 + x) (number_is k here) in
           subst (IsBootUpOf n.number) (sym there) (id, is_boot slot.frame.bytes b)
 
       by_boot_up : (place : Option ℕ) → place_of (error_control_id 0) slot.frame.id m.nodes ≡ place
-          → is_boot_up slot.frame.bytes ≡ true → Holds (outcome (after_boot_up t place m) image).0
+          → has_boot_up_byte slot.frame.bytes ≡ true → Holds (outcome (after_boot_up t place m) image).0
       unfolding after_boot_up
       by_boot_up None e b = stays
       by_boot_up (Some k) e b =
@@ -202,7 +202,7 @@ module _ (image : Image) (t i : ℕ) (heard : Option Slot) (n : Booting) (P : Bo
 
       by_frame : Holds (outcome (after_frame t slot.frame m) image).0
       unfolding after_frame
-      by_frame = first (is_boot_up slot.frame.bytes) refl
+      by_frame = first (has_boot_up_byte slot.frame.bytes) refl
         where
           second : (b : Bool)
               → Holds (outcome (if b
@@ -211,7 +211,7 @@ module _ (image : Image) (t i : ℕ) (heard : Option Slot) (n : Booting) (P : Bo
           second true = by_answer (place_of (sdo_answer_id 0) slot.frame.id m.nodes) refl
           second false = stays
 
-          first : (b : Bool) → is_boot_up slot.frame.bytes ≡ b
+          first : (b : Bool) → has_boot_up_byte slot.frame.bytes ≡ b
               → Holds (outcome (if b then after_boot_up t (place_of (error_control_id 0) slot.frame.id m.nodes) m
               else if length slot.frame.bytes == 8
               then after_sdo_frame t slot.frame.bytes (place_of (sdo_answer_id 0) slot.frame.id m.nodes) m
@@ -259,7 +259,7 @@ module _ (image : Image) (t i : ℕ) (heard : Option Slot) (n : Booting) (P : Bo
       (λ c node m h. h)
       (λ m h. hears_slot m h (ended_slot t s.wire) e)
       timers_keep
-      (λ m frames h. h)
+      (λ m place h. h)
       is
 
 -- ---- from a write on, and once a boot has ended

@@ -73,7 +73,7 @@ started_next image t s h =
     (hears_keeps image t IsStarted (λ slot m k. frame_holds image t slot.frame m (λ st nodes. st.is_started ≡ true)
     (λ nodes. k) (λ nodes. turned_stays m.startup nodes k)) (ended_slot t s.wire))
     (λ m k. timers_have (λ st nodes. st.is_started ≡ true) t m k)
-    (λ m frames k. k)
+    (λ m place k. k)
     h
 
 pub stays_started : (image : Image) (t more : ℕ) → IsStarted (bus_at image t).manager
@@ -115,7 +115,7 @@ each_next image t s h =
     (hears_keeps image t IsEach (λ slot m k. frame_holds image t slot.frame m ByItself (λ nodes. k)
     (λ nodes. (mode_stays m.startup nodes ∙ k.0, not_turned m.startup nodes k.0 k.1))) (ended_slot t s.wire))
     (λ m k. timers_have ByItself t m k)
-    (λ m frames k. k)
+    (λ m place k. k)
     h
 
 each_on : (image : Image) → (roster_of (image Roster)).start_mode ≡ EachNode → IsEach (outcome power_on image).manager
@@ -143,7 +143,7 @@ module _ (network : Network) where
       (hears_keeps image t Mandatory (λ slot m k. frame_holds image t slot.frame m (HasMandatory network) (λ nodes. k)
       (λ nodes. mandatory_stay m.startup nodes ∙ k)) (ended_slot t s.wire))
       (λ m k. timers_have (HasMandatory network) t m k)
-      (λ m frames k. k)
+      (λ m place k. k)
       h
 
 mandatory_on : (image : Image) → Mandatory (roster_of (image Roster)) (outcome power_on image).manager
@@ -250,7 +250,7 @@ starts_next image t s h =
     (λ c node m k. k)
     (λ m k. heard_with image t (ended_slot t s.wire) m k)
     (λ m k. timers_have IsStartedBy t m (λ e. all_stay t m.nodes m.startup.mandatory (k e)))
-    (λ m frames k. k)
+    (λ m place k. k)
     h
 
 pub starts_with_mandatory : (image : Image) (t : ℕ) → (bus_at image t).manager.startup.is_started ≡ false

@@ -7,7 +7,6 @@ use Rattle.bus_devices.specs.Events.{after_events_at, after_event}
 use Rattle.bus_devices.specs.Steps.{steps_due}
 use Rattle.bus_devices.proofs.EventLemmas.{happens_nmt, happens_set, outcome_events, outcome_power}
 use Rattle.can_frame.specs.declared.contender.Contender.{Contender}
-use Rattle.can_frame.specs.declared.waiting.Waiting.{Waiting}
 use Rattle.co_device.specs.Device.{Device, after_instant}
 use Rattle.image_parts.specs.Contents.{Image}
 use Rattle.co_scenario.specs.declared.nmt_command.NmtCommand.{NmtCommand}
@@ -52,7 +51,7 @@ module _ (image : Image) (t : ℕ) (s : Bus) (Before Heard After : Manager → T
     (command : (c : NmtCommand) (node : ℕ) (m : Manager) → Before m → Before (with_command c node m))
     (hears : (m : Manager) → Before m → Heard (outcome (manager_after_slot t (ended_slot t s.wire) m) image).0)
     (timed : (m : Manager) → Heard m → After (timers t m).0)
-    (sent : (m : Manager) (frames : List Waiting) → After m → After (record m { waiting = frames })) where
+    (sent : (m : Manager) (place : ℕ) → After m → After (record m { waiting = remove m.waiting place })) where
   one_event : (step : Step) (ds : List Device) (m : Manager) → Before m
       → Before (outcome (after_event t step (ds, m)) image).1
   one_event (Set node index sub bytes) ds m h = rw (happens_set t ds m node index sub bytes) h
@@ -74,7 +73,7 @@ module _ (image : Image) (t : ℕ) (s : Bus) (Before Heard After : Manager → T
       rw (outcome_events_run t b image) (all_events (steps_due t b.steps) b.devices b.manager there)
 
   sends : (c : Contender) (o : Option ℕ) (m : Manager) → After m → After (manager_without_winner c o m)
-  sends c None m h = sent m (remove m.waiting c.place) h
+  sends c None m h = sent m c.place h
   sends c (Some i) m h = h
 
   started_manager : (o : Option Contender) (b : Bus) → After b.manager → After (with_slot_of t o b).manager

@@ -42,7 +42,7 @@ IsManagersFrame number Time frame = frame.id ≡ time_id
 IsManagersFrame number Nmt frame = frame.id ≡ nmt_id
 
 -- EACH FRAME THAT WAITS AT THE MANAGER IS ITS OWN, and its nodes have numbers of nodes
-pub record HasOwnFrames (m : Manager) : Type 0 where
+pub record HasManagerFrames (m : Manager) : Type 0 where
   pub frames : All (λ w. IsManagersFrame m.number w.purpose w.frame) m.waiting
   pub nodes : All (λ node. IsNodeNumber node.number) m.nodes
 

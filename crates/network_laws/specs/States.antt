@@ -18,13 +18,13 @@ pub record HasBooted (number : ℕ) (d : Device) : Type 0 where
   pub closed : d.transfer ≡ Idle
 
 -- no frame of this kind waits
-abbrev pub NoneWaits : Unwanted → Device → Type 0
-NoneWaits unwanted d = All (λ w. is_unwanted unwanted w.purpose ≡ false) d.waiting
+abbrev pub NoneOfKindWaits : Unwanted → Device → Type 0
+NoneOfKindWaits unwanted d = All (λ w. is_unwanted unwanted w.purpose ≡ false) d.waiting
 
 -- no answer of the SDO server waits and no emergency object, and no transfer is open
 pub record SaysNothing (d : Device) : Type 0 where
-  pub no_answer : NoneWaits Sdos d
-  pub no_emergency : NoneWaits Emergencies d
+  pub no_answer : NoneOfKindWaits Sdos d
+  pub no_emergency : NoneOfKindWaits Emergencies d
   pub closed : d.transfer ≡ Idle
 
 -- in Stopped the SDO server is silent, and no emergency object is sent
@@ -33,7 +33,7 @@ IsSilent d = is_in Stopped d ≡ true → SaysNothing d
 
 -- no TPDO waits, none remembers anything, and no RPDO keeps a frame
 pub record HasNoPdo (d : Device) : Type 0 where
-  pub no_tpdo : NoneWaits Tpdos d
+  pub no_tpdo : NoneOfKindWaits Tpdos d
   pub nothing_remembered : AllByRecursion (λ p. p.remembered ≡ remembering_nothing) d.tpdos
   pub nothing_kept : AllByRecursion (λ p. p.kept ≡ None) d.rpdos
 

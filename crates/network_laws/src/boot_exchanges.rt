@@ -2,7 +2,7 @@
 
 ghost use Rattle.std.specs.Prelude.{◌≡◌, ◌⊎◌, ◌+◌, ℕ, List, [], All, remove};
 ghost use Rattle.image_parts.specs.Asking.{outcome};
-ghost use Rattle.network_laws.specs.Requests.{HasOwnFrames, IsAlone, LeavesBoot};
+ghost use Rattle.network_laws.specs.Requests.{HasManagerFrames, IsAlone, LeavesBoot};
 ghost use Rattle.can_frame.specs.ErrorControl.{IsBootUp};
 ghost use Rattle.cia301.specs.Limits.{IsNodeNumber};
 ghost use Rattle.network_laws.specs.Requests.{StaysManager, TakesStep, requests_to};
@@ -21,14 +21,14 @@ ghost use Rattle.node_boot.specs.declared.boot_stage.BootStage.TheVariants as st
 /// Every frame that waits at the manager has the identifier of its purpose: the manager alone has SDO requests, each
 /// to a node, and none of its frames is an SDO answer or the boot-up message of a node.
 pub fn each_frame_of_the_manager_is_its_own()
-    ensures power { (roster : Roster) → All IsNodeNumber roster.nodes → HasOwnFrames (manager_at_power_on roster) }
-    ensures command { (c : NmtCommand) (node : ℕ) (m : Manager) → HasOwnFrames m
-        → HasOwnFrames (with_command c node m) }
-    ensures frame { (image : Image) (t : ℕ) (frame : BaseFrame) (m : Manager) → HasOwnFrames m
-        → HasOwnFrames (outcome (after_frame t frame m) image).0 }
-    ensures timers { (t : ℕ) (m : Manager) → HasOwnFrames m → HasOwnFrames (timers t m).0 }
-    ensures sent { (place : ℕ) (m : Manager) → HasOwnFrames m
-        → HasOwnFrames (record m { waiting = remove m.waiting place }) }
+    ensures power { (roster : Roster) → All IsNodeNumber roster.nodes → HasManagerFrames (manager_at_power_on roster) }
+    ensures command { (c : NmtCommand) (node : ℕ) (m : Manager) → HasManagerFrames m
+        → HasManagerFrames (with_command c node m) }
+    ensures frame { (image : Image) (t : ℕ) (frame : BaseFrame) (m : Manager) → HasManagerFrames m
+        → HasManagerFrames (outcome (after_frame t frame m) image).0 }
+    ensures timers { (t : ℕ) (m : Manager) → HasManagerFrames m → HasManagerFrames (timers t m).0 }
+    ensures sent { (place : ℕ) (m : Manager) → HasManagerFrames m
+        → HasManagerFrames (record m { waiting = remove m.waiting place }) }
 {}
 
 /// The manager and its nodes keep their numbers.

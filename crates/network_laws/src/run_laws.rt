@@ -9,6 +9,7 @@ ghost use Rattle.network_laws.specs.Starts.{but_for_frames, LeavesItsList};
 ghost use Rattle.can_bus.specs.Bus.{ended_slot, instant, waiting_lists, power_on, after_arbitration, Bus};
 ghost use Rattle.can_bus.specs.Runs.{run, StartsWith};
 ghost use Rattle.can_bus.specs.declared.slot.Slot.{Slot as Sent};
+ghost use Rattle.can_frame.specs.Identifiers.{time_id};
 ghost use Rattle.can_frame.specs.declared.contender.Contender.{Contender as Bid};
 ghost use Rattle.can_frame.specs.declared.waiting.Waiting.{Waiting as Queued};
 ghost use Rattle.image_parts.specs.Contents.{roster_of, Image};
@@ -17,6 +18,7 @@ ghost use Rattle.image_parts.specs.declared.part.Part.TheVariants as part;
 ghost use Rattle.sdo_client.specs.declared.client_transfer.ClientTransfer.{ClientTransfer as Transfer};
 ghost use Rattle.nmt_boot.specs.Beats.{HasNumbersOf, IsMultiple, IsOnTime, due_messages};
 ghost use Rattle.nmt_boot.specs.Periodic.{period_of};
+ghost use Rattle.nmt_boot.specs.Stamps.{IsStampBefore, TellsWhenDue};
 ghost use Rattle.nmt_boot.specs.declared.periodic_message.PeriodicMessage.{PeriodicMessage as Message};
 ghost use Rattle.nmt_boot.specs.declared.periodic_message.PeriodicMessage.TheVariants.{Heartbeat, Sync, Time};
 ghost use Rattle.manager_nodes.specs.Table.{all_configured, node_at};
@@ -58,6 +60,16 @@ pub fn periodic_messages_are_due_at_whole_multiples()
         → Contains (due_messages t (bus_at image t).manager.periodic)
         (Sync (roster_of (image part.Roster)).sync_counter)
         ↔ IsMultiple t (roster_of (image part.Roster)).sync_us }
+{}
+
+/// At every moment of a run each TIME that waits at the manager tells when it was due: it carries the time of an earlier
+/// moment that is a whole multiple of the period of TIME, as milliseconds and days from midnight of the first day on.
+/// So does each frame that waits there with the identifier 100h.
+pub fn waiting_time_stamps_tell_when_they_were_due()
+    ensures all { (image : Image) (t : ℕ) → TellsWhenDue (roster_of (image part.Roster)) t (bus_at image t).manager }
+    ensures identifier { (image : Image) (t : ℕ) (w : Queued) → IsImage image
+        → Contains (bus_at image t).manager.waiting w → w.frame.id ≡ time_id
+        → IsStampBefore (roster_of (image part.Roster)) t w.frame }
 {}
 
 /// In a run the network is started at most once: only in an instant that leaves each mandatory node

@@ -11,7 +11,7 @@ use Rattle.node_boot.proofs.ChoiceLemmas.{picked}
 use Rattle.node_boot.specs.Boot.{boot_nmt_slave, sdo_answer}
 use Rattle.nmt_boot.specs.Manager.{Manager, after_boot_start, after_step, after_boot_up, after_sdo_frame}
 use Rattle.manager_nodes.specs.Table.{node_at}
-use Rattle.nmt_boot.specs.Manager.{is_boot_up, after_frame}
+use Rattle.nmt_boot.specs.Manager.{has_boot_up_byte, after_frame}
 use Rattle.manager_nodes.specs.Table.{place_of}
 use Rattle.node_boot.specs.declared.note.Note.{Note}
 
@@ -45,6 +45,6 @@ module _ (image : Image) (t : ℕ) (frame : BaseFrame) (m : Manager)
     pub received_holds : Holds (after_frame t frame m)
     unfolding after_frame
     received_holds =
-        picked Holds (is_boot_up frame.bytes) _ _ (boot_up_holds (place_of (error_control_id 0) frame.id m.nodes) refl)
+        picked Holds (has_boot_up_byte frame.bytes) _ _ (boot_up_holds (place_of (error_control_id 0) frame.id m.nodes) refl)
         (picked Holds (length frame.bytes == 8) _ _ (answer_holds (place_of (sdo_answer_id 0) frame.id m.nodes) refl)
         nothing)

@@ -6,4 +6,6 @@ pub mod BeatLemmas
 pub mod TableLemmas
 pub mod EndLemmas
 pub mod CounterLemmas
+pub mod ClockLemmas
+pub mod StampLemmas
 pub mod StartLemmas

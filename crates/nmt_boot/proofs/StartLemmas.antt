@@ -77,6 +77,7 @@ sdo_starts_none node (Tpdo number) rest e = refl
 sdo_starts_none node (Sdo other) rest e = refl
 sdo_starts_none node Emergency rest e = refl
 sdo_starts_none node Sync rest e = refl
+sdo_starts_none node Time rest e = refl
 sdo_starts_none node Nmt rest e = cc
 
 dropped_starts : (node : ℕ) (ws : List Waiting)

@@ -7,5 +7,7 @@ pub mod Ahead
 pub mod Beats
 pub mod Ends
 pub mod Counter
+pub mod Clock
+pub mod Stamps
 pub mod Starts
 pub mod TellsBy

@@ -110,12 +110,12 @@ after_sdo_frame t answer (Some i) m = after_answer_at t answer i m
 
 -- ---- received frames
 
-unfoldable pub is_boot_up : List ℕ → Bool
-is_boot_up bytes = if length bytes == 1 then slice_index_or bytes 0 0 == 0 else false
+unfoldable pub has_boot_up_byte : List ℕ → Bool
+has_boot_up_byte bytes = if length bytes == 1 then slice_index_or bytes 0 0 == 0 else false
 
 unfoldable pub after_frame : ℕ → BaseFrame → Manager → Asking Part Content (Manager × List Note)
 after_frame t frame m =
-    if is_boot_up frame.bytes then after_boot_up t (place_of (error_control_id 0) frame.id m.nodes) m
+    if has_boot_up_byte frame.bytes then after_boot_up t (place_of (error_control_id 0) frame.id m.nodes) m
     else if length frame.bytes == 8 then after_sdo_frame t frame.bytes (place_of (sdo_answer_id 0) frame.id m.nodes) m
     else Answer (m, [])
 

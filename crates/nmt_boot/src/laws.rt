@@ -1,11 +1,13 @@
 //! Laws of managers, each a function whose contract is the law.
 
-ghost use Rattle.std.specs.Prelude.{◌≡◌, ◌≢◌, ◌≤◌, ◌⊎◌, ◌+◌, ◌*◌, ◌↔◌, ℕ, Contains, true, [], ◌∷◌};
+ghost use Rattle.std.specs.Prelude.{◌≡◌, ◌≢◌, ◌<◌, ◌≤◌, ◌⊎◌, ◌+◌, ◌*◌, ◌↔◌, ℕ, Contains, drop, length, remove, true, [], ◌∷◌};
+ghost use Rattle.byteorder.specs.Endian.{little_number};
 ghost use Rattle.image_parts.specs.Alike.{AreAlike};
 ghost use Rattle.image_parts.specs.Asking.{Agrees, outcome, reads};
 ghost use Rattle.can_frame.specs.Frames.{BaseFrame};
 ghost use Rattle.can_frame.specs.Identifiers.{error_control_id, sdo_answer_id};
 ghost use Rattle.can_frame.specs.WaitingFrames.{waiting};
+ghost use Rattle.can_frame.specs.declared.purpose.Purpose.TheVariants as purpose;
 ghost use Rattle.image_parts.specs.Contents.{Image};
 ghost use Rattle.image_parts.specs.Images.{IsRoster};
 ghost use Rattle.image_parts.specs.declared.roster.Roster.{Roster as Network};
@@ -13,13 +15,16 @@ ghost use Rattle.image_parts.specs.declared.start_mode.StartMode.TheVariants.{Co
 ghost use Rattle.co_scenario.specs.declared.nmt_command.NmtCommand.{NmtCommand};
 ghost use Rattle.nmt_boot.specs.Ahead.{IsAhead};
 ghost use Rattle.nmt_boot.specs.Beats.{HasNumbersOf, IsMultiple, IsOnTime, due_messages};
+ghost use Rattle.nmt_boot.specs.Clock.{IsClock};
 ghost use Rattle.nmt_boot.specs.Counter.{IsCounting, sync_with};
+ghost use Rattle.nmt_boot.specs.TimeOfDay.{day_at, milliseconds_at, time_frame, time_of_day};
 ghost use Rattle.nmt_boot.specs.Ends.{configured_note, WritesEnd};
 ghost use Rattle.nmt_boot.specs.Manager.{Manager as State, with_command, manager_at_power_on, after_frame};
 ghost use Rattle.manager_nodes.specs.Table.{node_at};
 ghost use Rattle.nmt_boot.specs.Manager.{timers};
 ghost use Rattle.nmt_boot.specs.Periodic.{frame_of, messages_of, period_of, purpose_of, sync_number};
 ghost use Rattle.nmt_boot.specs.declared.periodic_message.PeriodicMessage.{PeriodicMessage as Message};
+ghost use Rattle.nmt_boot.specs.Stamps.{TellsWhenDue};
 ghost use Rattle.nmt_boot.specs.Starts.{HasNodeNumbers, KeepsStart, StartsNetwork, network_starts};
 
 /// Before the first of its moments nothing happens to the manager, and nothing is noted.
@@ -61,7 +66,6 @@ pub fn a_frame_changes_its_node_alone()
 
 /// A manager has a message of each kind that there is, once, with the numbers that its network gives it, and no other:
 /// its heartbeat, TIME and SYNC.
-#[tactic(auto, using(crate::proofs::BeatLemmas::all_there))]
 pub fn no_periodic_message_is_forgotten()
     ensures { (network : Network) (message : Message)
         → Contains (messages_of network) message ↔ HasNumbersOf network message }
@@ -70,7 +74,6 @@ pub fn no_periodic_message_is_forgotten()
 /// What the manager sends periodically, its heartbeat, TIME and SYNC and nothing else, is due at the whole multiples of
 /// its period above 0, and at no other moment: it is set so at power-on, and after each frame, each command, and the
 /// timers of each moment. Where it is due its frame waits then.
-#[tactic(auto, using(crate::proofs::BeatLemmas::on_time_first, crate::proofs::BeatLemmas::timers_on_time, crate::proofs::CounterLemmas::queued))]
 pub fn periodic_messages_come_at_whole_multiples()
     ensures first { (network : Network) → IsOnTime network 0 (manager_at_power_on network) }
     ensures frames { (network : Network) (image : Image) (t : ℕ) (frame : BaseFrame) (m : State)
@@ -98,7 +101,6 @@ pub fn a_boot_ends_with_its_writes()
 
 /// The SYNC of a manager with a counter carries its number: that of the k-th SYNC of a run, at k whole periods, counts
 /// from 1 to the last number of the counter, and then from 1 again. Without a counter it has no byte.
-#[tactic(auto, using(crate::proofs::CounterLemmas::counting, crate::proofs::CounterLemmas::numbered, crate::proofs::CounterLemmas::without_counter))]
 pub fn sync_messages_are_numbered()
     ensures counts { (last : ℕ) → 1 ≤ last → IsCounting last (sync_number last) }
     ensures numbered { (network : Network) (t k : ℕ) (m : State) → IsOnTime network t m → 1 ≤ network.sync_counter
@@ -106,6 +108,31 @@ pub fn sync_messages_are_numbered()
         → Contains (timers t m).0.waiting (sync_with (sync_number network.sync_counter k ∷ [])) }
     ensures plain { (network : Network) (t : ℕ) (m : State) → IsOnTime network t m → IsMultiple t network.sync_us
         → network.sync_counter ≡ 0 → Contains (timers t m).0.waiting (sync_with []) }
+{}
+
+/// TIME tells the time: where it is due, its frame with the time of that moment waits. Its six bytes are milliseconds after
+/// midnight and days, which go on as moments do, from midnight of the network's first day on.
+pub fn time_stamps_tell_the_time()
+    ensures waits { (network : Network) (t : ℕ) (m : State) → IsOnTime network t m → IsMultiple t network.time_us
+        → Contains (timers t m).0.waiting (waiting purpose.Time (time_frame network.first_day t)) }
+    ensures clock { (first : ℕ) → first < 0x10000 → IsClock first milliseconds_at (day_at first) }
+    ensures milliseconds { (first t : ℕ) → little_number 4 (time_of_day first t) ≡ milliseconds_at t }
+    ensures day { (first t : ℕ) → little_number 2 (drop 4 (time_of_day first t)) ≡ day_at first t }
+    ensures six { (first t : ℕ) → length (time_of_day first t) ≡ 6 }
+{}
+
+/// Each TIME that waits tells when it was due: that of an earlier moment that is a whole multiple of the period. It is so
+/// at power-on, after each frame and each command, once a frame has started, and after the timers of each moment.
+pub fn waiting_time_stamps_tell_when_they_were_due()
+    ensures first { (network : Network) → TellsWhenDue network 0 (manager_at_power_on network) }
+    ensures frames { (network : Network) (image : Image) (t : ℕ) (frame : BaseFrame) (m : State)
+        → TellsWhenDue network t m → TellsWhenDue network t (outcome (after_frame t frame m) image).0 }
+    ensures commands { (network : Network) (t : ℕ) (command : NmtCommand) (node : ℕ) (m : State)
+        → TellsWhenDue network t m → TellsWhenDue network t (with_command command node m) }
+    ensures sent { (network : Network) (t place : ℕ) (m : State) → TellsWhenDue network t m
+        → TellsWhenDue network t (record m { waiting = remove m.waiting place }) }
+    ensures timers { (network : Network) (t : ℕ) (m : State) → IsOnTime network t m → TellsWhenDue network t m
+        → TellsWhenDue network (t + 1) (timers t m).0 }
 {}
 
 /// A frame leaves the start of the network as it is, or starts the network: as a whole by one command, or by one to each

@@ -11,5 +11,6 @@ mod telling;
 mod time;
 
 pub use manager::Manager;
+pub use node_boot::{Note, NoteKind, Notes};
 pub use periodic::Periodic;
 pub use periodic_message::PeriodicMessage;

@@ -57,9 +57,9 @@ impl Model for Manager {
 }
 
 /// Whether these are the bytes of a boot-up message.
-#[tactic(auto, unfolding(crate::specs::Manager::is_boot_up))]
-fn is_boot_up(bytes: &[u8]) -> bool
-    ensures { result ≡ rules.is_boot_up bytes.now }
+#[tactic(auto, unfolding(crate::specs::Manager::has_boot_up_byte))]
+fn has_boot_up_byte(bytes: &[u8]) -> bool
+    ensures { result ≡ rules.has_boot_up_byte bytes.now }
 {
     bytes.len() == 1 && bytes[0] == 0
 }
@@ -322,7 +322,7 @@ impl Manager {
         ensures lasts { Lasts (P.seen boots.old) (P.seen boots.new) }
     {
         let bytes = frame.bytes();
-        if is_boot_up(bytes) {
+        if has_boot_up_byte(bytes) {
             let base = identifiers::error_control(0);
             let place = self.nodes.place_of(base, frame.id());
             return self.take_boot_up(t, place, boots, notes);

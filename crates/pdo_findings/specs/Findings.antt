@@ -14,9 +14,10 @@ use Rattle.concise_dcf.specs.declared.write.Write.{Write}
 use Rattle.concise_dcf.specs.Writes.{place_of}
 use Rattle.byteorder.specs.Endian.{little_number}
 use Rattle.node_parameters.specs.Judgement.{is_outside}
-use Rattle.pdo_plan.specs.declared.clean.Clean.{Clean}
+use Rattle.pdo_choices.specs.declared.clean.Clean.{Clean}
 use Rattle.pdo_plan.specs.declared.planned_message.PlannedMessage.{PlannedMessage}
-use Rattle.pdo_plan.specs.Plan.{clean_of, is_at_node}
+use Rattle.pdo_plan.specs.Plan.{clean_of}
+use Rattle.pdo_choices.specs.Had.{is_at_node}
 use Rattle.pdo_stations.specs.declared.as_made.AsMade.{AsMade}
 use Rattle.vendor_pdos.specs.Parameters.{has_at, has_parameter, number_serves, parameter_default}
 use Rattle.pdo_links.specs.VendorWrites.{is_switched_off}

@@ -3,7 +3,7 @@ ghost use Rattle.std.specs.Prelude.{◌≡◌, ◌==◌, ◌&&◌, ◌||◌, not
 ghost use Rattle.std.specs.BTreeSet.{contains};
 ghost use Rattle.std.specs.List.{list_any};
 ghost use Rattle.std.specs.Ordering.{nat_cmp};
-ghost use Rattle.pdo_plan.specs.Plan.{is_at_node};
+ghost use Rattle.pdo_choices.specs.Had.{is_at_node};
 ghost use Rattle.pdo_findings.specs.Findings.{is_sent_to, of_clean, uses_rpdo, uses_tpdo};
 
 use pdo_links::{Consumer, Outcome, Plan, PlannedMessage};

@@ -1,6 +1,6 @@
 -- The writes of all numbers in their order: of each that is used, and of each that isn't.
 use Rattle.std.proofs.Common.{◌≡◌, ℕ, zero, suc, ◌+◌, ◌*◌, List, [], ◌∷◌, ◌++◌, Option, Some, None}
-use Rattle.std.proofs.Common.{◌≤◌, append_assoc, refl, sym, ap, subst, ◌∙◌, arith}
+use Rattle.std.proofs.Common.{◌≤◌, refl, sym, ap, subst, ◌∙◌, arith}
 use Rattle.std.specs.BTreeMap.{is_at}
 use Rattle.std.specs.List.{flat_map, range_with_len}
 use Rattle.std.specs.Map.{lookup}
@@ -44,9 +44,6 @@ module _ {Y : Type 0} (used : Y → List Write) (unused : ℕ → List Write) (p
   no_numbers : (n : ℕ) → n + 1 ≡ 1 → up_to n ≡ []
   no_numbers n is = let e : n ≡ 0 = omega (arith, is) in ap up_to e
 
-  pub started : (items : List Write) (n : ℕ) → n + 1 ≡ 1 → items ≡ items ++ up_to n
-  started items n is = sym (append_none items) ∙ ap (λ (ws : List Write). items ++ ws) (sym (no_numbers n is))
-
   pub started_values : (ss : List Section) (n : ℕ) → n + 1 ≡ 1 → AreValues ss (up_to n)
   started_values ss n is = subst (AreValues ss) (sym (no_numbers n is)) (no_values ss)
 
@@ -54,15 +51,6 @@ module _ {Y : Type 0} (used : Y → List Write) (unused : ℕ → List Write) (p
   next n m is =
       let e : n ≡ suc m = omega (arith, is) in let f : m + 1 ≡ suc m = omega arith in
       ap up_to e ∙ one_number_more m (suc m) f
-
-  pub continued : (first old new part : List Write) (n number : ℕ) → n + 1 ≡ number + 1 → 1 ≤ number
-      → ((m : ℕ) → m + 1 ≡ number → old ≡ first ++ up_to m) → new ≡ old ++ part → part ≡ at_each number
-      → new ≡ first ++ up_to n
-  continued first old new part n zero is low so_far added here = absurd (omega arith)
-  continued first old new part n (suc m) is low so_far added here =
-      let f : m + 1 ≡ suc m = omega arith in
-      added ∙ ap (λ (ws : List Write). ws ++ part) (so_far m f) ∙ append_assoc first (up_to m) part
-      ∙ ap (λ (ws : List Write). first ++ (up_to m ++ ws)) here ∙ ap (λ (ws : List Write). first ++ ws) (sym (next n m is))
 
   pub continued_values : (ss : List Section) (part : List Write) (n number : ℕ) → n + 1 ≡ number + 1 → 1 ≤ number
       → ((m : ℕ) → m + 1 ≡ number → AreValues ss (up_to m)) → AreValues ss part → part ≡ at_each number

@@ -2,6 +2,7 @@ mod EachNumber
 mod Held
 mod Mappings
 pub mod Numbered
+pub mod NumberLemmas
 pub mod OrderLemmas
 pub mod Sizes
 mod Tabled

@@ -9,8 +9,8 @@ use Rattle.std.specs.Ordering.{nat_cmp, eq_by_cmp}
 use Rattle.std.proofs.lemmas.Map.Lookups.{exact_unsigned}
 use Rattle.std.proofs.lemmas.Map.Views.{Contains-from_lookup, tells_apart, exact_unsigned_eq}
 use Rattle.node_parameters.proofs.WrittenLemmas.{from_filter_map}
-use Rattle.pdo_plan.specs.declared.clean.Clean.{Clean}
-use Rattle.pdo_plan.specs.declared.consumer.Consumer.{Consumer}
+use Rattle.pdo_choices.specs.declared.clean.Clean.{Clean}
+use Rattle.pdo_choices.specs.declared.consumer.Consumer.{Consumer}
 use Rattle.pdo_links.specs.Tables.{IsTableOf}
 use Rattle.pdo_links.specs.PdoWrites.{tpdo_of, rpdo_of}
 use Rattle.pdo_links.proofs.Tabled.{tabled}

@@ -10,12 +10,12 @@ use Rattle.cia301.specs.CobIds.{is_valid, no_rtr_bit, off_bit}
 use Rattle.concise_dcf.specs.declared.write.Write.{Write}
 use Rattle.ini_text.specs.Content.{Section}
 use Rattle.eds_device.specs.Entries.{entry_at}
-use Rattle.pdo_plan.specs.declared.clean.Clean.{Clean}
-use Rattle.pdo_plan.specs.declared.consumer.Consumer.{Consumer}
+use Rattle.pdo_choices.specs.declared.clean.Clean.{Clean}
+use Rattle.pdo_choices.specs.declared.consumer.Consumer.{Consumer}
 use Rattle.pdo_stations.specs.declared.mapped.Mapped.{Mapped}
 use Rattle.pdo_stations.specs.Devices.{takes_unsigned}
 use Rattle.cia301.specs.PdoObjects.{mapping_object, rpdo_object, tpdo_object}
-use Rattle.pdo_plan.specs.Plan.{IsWithin}
+use Rattle.pdo_choices.specs.Limits.{IsWithin}
 use Rattle.pdo_links.specs.Order.{is_to, to_object, AreBetween, IsConfigured, IsMapped, IsSwitched}
 use Rattle.pdo_links.specs.PdoWrites.{write_at, cob_write, mapped_writes, mapping_writes, taken_type}
 use Rattle.pdo_links.specs.Writes.{start_write, time_write}

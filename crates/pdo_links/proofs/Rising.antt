@@ -15,7 +15,7 @@ use Rattle.std.specs.Ordering.{nat_cmp, MatchOrdering}
 use Rattle.std.proofs.lemmas.List.Elements.{All-head, All-tail}
 use Rattle.std.proofs.lemmas.Map.Keys.{sorted_head, sorted_tail}
 use Rattle.base.specs.Ranges.{is_between}
-use Rattle.pdo_plan.proofs.LimitLemmas.{between}
+use Rattle.pdo_choices.proofs.RangeLemmas.{between}
 use borrow.Author.Tests.{eqb-true}
 use Rattle.concise_dcf.specs.declared.write.Write.{Write}
 use Rattle.pdo_links.specs.Tables.{IsTableOf}

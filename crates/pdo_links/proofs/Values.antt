@@ -20,8 +20,8 @@ use Rattle.concise_dcf.specs.declared.write.Write.{Write}
 use Rattle.ini_text.specs.Content.{Section}
 use Rattle.eds_device.specs.Described.{Described, description_of, kind_at}
 use Rattle.eds_device.specs.Entries.{entry_by, entry_at}
-use Rattle.pdo_plan.specs.declared.clean.Clean.{Clean}
-use Rattle.pdo_plan.specs.declared.consumer.Consumer.{Consumer}
+use Rattle.pdo_choices.specs.declared.clean.Clean.{Clean}
+use Rattle.pdo_choices.specs.declared.consumer.Consumer.{Consumer}
 use Rattle.pdo_stations.specs.declared.mapped.Mapped.{Mapped}
 use Rattle.pdo_stations.specs.Devices.{devices_of, is_unsigned, takes_unsigned, has_unsigned}
 use Rattle.pdo_stations.specs.Devices.{has_mapping}

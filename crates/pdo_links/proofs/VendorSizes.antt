@@ -12,8 +12,8 @@ use Rattle.co_values.specs.Types.{octets}
 use Rattle.cia301.specs.CobIds.{is_valid, no_rtr_bit, off_bit}
 use Rattle.cia301.specs.PdoObjects.{mapping_object, rpdo_object, tpdo_object}
 use Rattle.concise_dcf.specs.declared.write.Write.{Write}
-use Rattle.pdo_plan.specs.declared.clean.Clean.{Clean}
-use Rattle.pdo_plan.specs.declared.consumer.Consumer.{Consumer}
+use Rattle.pdo_choices.specs.declared.clean.Clean.{Clean}
+use Rattle.pdo_choices.specs.declared.consumer.Consumer.{Consumer}
 use Rattle.pdo_stations.specs.declared.as_made.AsMade.{AsMade}
 use Rattle.pdo_stations.specs.declared.mapped.Mapped.{Mapped}
 use Rattle.vendor_pdos.specs.Mappings.{writes_mapping}

@@ -19,8 +19,8 @@ use Rattle.node_parameters.specs.Params.{Texts}
 use Rattle.node_parameters.specs.Parameters.{parameter_text, parameter_writes}
 use Rattle.concise_dcf.specs.Writes.{place_of}
 use Rattle.node_parameters.proofs.ParameterLemmas.{nothing_else, pdo_text}
-use Rattle.pdo_plan.specs.declared.clean.Clean.{Clean}
-use Rattle.pdo_plan.specs.declared.consumer.Consumer.{Consumer}
+use Rattle.pdo_choices.specs.declared.clean.Clean.{Clean}
+use Rattle.pdo_choices.specs.declared.consumer.Consumer.{Consumer}
 use Rattle.pdo_plan.specs.declared.planned_message.PlannedMessage.{PlannedMessage}
 use Rattle.pdo_plan.specs.Plan.{clean}
 use Rattle.pdo_links.specs.Order.{IsOfSent, IsOfTaken, IsNamedByNone, IsSentAlone, IsTakenAlone}

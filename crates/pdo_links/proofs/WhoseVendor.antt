@@ -17,9 +17,9 @@ use Rattle.cia301.specs.PdoObjects.{is_of_pdos, rpdo_object, tpdo_object}
 use Rattle.node_parameters.specs.Params.{Texts}
 use Rattle.node_parameters.specs.Parameters.{parameter_text, parameter_writes}
 use Rattle.node_parameters.proofs.ParameterLemmas.{nothing_else, pdo_text}
-use Rattle.pdo_plan.proofs.LimitLemmas.{between, is_within}
-use Rattle.pdo_plan.specs.declared.clean.Clean.{Clean}
-use Rattle.pdo_plan.specs.declared.consumer.Consumer.{Consumer}
+use Rattle.pdo_choices.proofs.RangeLemmas.{between, is_within}
+use Rattle.pdo_choices.specs.declared.clean.Clean.{Clean}
+use Rattle.pdo_choices.specs.declared.consumer.Consumer.{Consumer}
 use Rattle.pdo_plan.specs.declared.planned_message.PlannedMessage.{PlannedMessage}
 use Rattle.pdo_plan.specs.Plan.{clean}
 use Rattle.pdo_stations.specs.declared.as_made.AsMade.{AsMade}

@@ -5,8 +5,8 @@ use Rattle.byteorder.specs.Endian.{little_number}
 use Rattle.cia301.specs.CobIds.{identifier_in, is_valid, off_bit}
 use Rattle.concise_dcf.specs.declared.write.Write.{Write}
 use Rattle.ini_text.specs.Content.{Section}
-use Rattle.pdo_plan.specs.declared.clean.Clean.{Clean}
-use Rattle.pdo_plan.specs.declared.consumer.Consumer.{Consumer}
+use Rattle.pdo_choices.specs.declared.clean.Clean.{Clean}
+use Rattle.pdo_choices.specs.declared.consumer.Consumer.{Consumer}
 use Rattle.pdo_stations.specs.declared.mapped.Mapped.{Mapped}
 use Rattle.pdo_stations.specs.declared.as_made.AsMade.{AsMade}
 use Rattle.cia301.specs.PdoObjects.{mapping_object, rpdo_object, tpdo_object}

@@ -4,8 +4,8 @@ use Rattle.std.specs.List.{find, enumerate_from}
 use Rattle.byteorder.specs.Endian.{little_bytes}
 use Rattle.cia301.specs.TransmissionTypes.{is_synchronous, type_of_byte}
 use Rattle.concise_dcf.specs.declared.write.Write.{Write}
-use Rattle.pdo_plan.specs.declared.clean.Clean.{Clean}
-use Rattle.pdo_plan.specs.declared.consumer.Consumer.{Consumer}
+use Rattle.pdo_choices.specs.declared.clean.Clean.{Clean}
+use Rattle.pdo_choices.specs.declared.consumer.Consumer.{Consumer}
 use Rattle.pdo_plan.specs.Mapping.{mapped_bytes}
 use Rattle.pdo_stations.specs.declared.mapped.Mapped.{Mapped}
 

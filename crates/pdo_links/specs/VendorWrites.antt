@@ -15,8 +15,8 @@ use Rattle.cia301.specs.CobIds.{is_valid, no_rtr_bit, off_bit}
 use Rattle.cia301.specs.PdoObjects.{mapping_object, rpdo_object, tpdo_object}
 use Rattle.concise_dcf.specs.declared.write.Write.{Write}
 use Rattle.node_parameters.specs.Judgement.{is_outside}
-use Rattle.pdo_plan.specs.declared.clean.Clean.{Clean}
-use Rattle.pdo_plan.specs.declared.consumer.Consumer.{Consumer}
+use Rattle.pdo_choices.specs.declared.clean.Clean.{Clean}
+use Rattle.pdo_choices.specs.declared.consumer.Consumer.{Consumer}
 use Rattle.pdo_plan.specs.declared.planned_message.PlannedMessage.{PlannedMessage}
 use Rattle.pdo_plan.specs.Plan.{clean}
 use Rattle.pdo_stations.specs.declared.as_made.AsMade.{AsMade}

@@ -15,8 +15,8 @@ use Rattle.ini_text.specs.Content.{Section}
 use Rattle.node_parameters.specs.Params.{Texts}
 use Rattle.node_parameters.specs.Parameters.{parameter_writes}
 use Rattle.eds_device.specs.Entries.{entry_at}
-use Rattle.pdo_plan.specs.declared.clean.Clean.{Clean}
-use Rattle.pdo_plan.specs.declared.consumer.Consumer.{Consumer}
+use Rattle.pdo_choices.specs.declared.clean.Clean.{Clean}
+use Rattle.pdo_choices.specs.declared.consumer.Consumer.{Consumer}
 use Rattle.pdo_plan.specs.declared.planned_message.PlannedMessage.{PlannedMessage}
 use Rattle.pdo_plan.specs.Plan.{clean}
 use Rattle.pdo_stations.specs.Devices.{as_made, takes_unsigned}

@@ -1,10 +1,10 @@
 //! The writes of a node's RPDOs.
-ghost use Rattle.std.specs.Prelude.{◌≡◌, ◌==◌, ℕ, true, List, ◌++◌, length, filter_map, OnOk, IfOk};
-ghost use Rattle.std.specs.List.{find};
-ghost use Rattle.std.specs.Option.{option_map, option_and_then, option_copied};
+ghost use Rattle.std.specs.Prelude.{◌≡◌, ℕ, true, List, ◌++◌, length, filter_map, OnOk, IfOk};
+ghost use Rattle.std.specs.Option.{option_map, option_and_then};
 ghost use Rattle.ini_text.specs.Content.{Section};
 ghost use Rattle.cia301.specs.PdoObjects.{rpdo_object};
-ghost use Rattle.pdo_plan.specs.Plan.{HasPdo, IsMadeFor, IsNumbered, clean, clean_of};
+ghost use Rattle.pdo_plan.specs.Plan.{HasPdo, IsMadeFor, clean, clean_of};
+ghost use Rattle.pdo_choices.specs.Limits.{IsNumbered};
 ghost use Rattle.pdo_links.specs.Tables.{AreFew, AreValues, IsTableOf};
 ghost use Rattle.pdo_links.specs.PdoWrites.{taken_type, rpdo_of};
 ghost use Rattle.pdo_links.specs.Writes.{rpdo_writes, by_number};
@@ -17,7 +17,7 @@ use crate::taken::Taken;
 use cia301::{CobId, TransmissionType, mapping_object, rpdo_object};
 use concise_dcf::Write;
 use eds_device::DataSheet;
-use pdo_plan::{Clean, Consumer, Outcome, Plan, PlannedMessage};
+use pdo_plan::{Clean, Consumer, Outcome, Plan, PlannedMessage, consumer_at};
 use std::alloc::{AllocError, Global};
 use std::collections::BTreeMap;
 
@@ -54,13 +54,6 @@ fn put_rpdo(writes: &mut Vec<Write>, clean: &Clean, consumer: &Consumer) -> Resu
     put_mapping(writes, mapping_object(object), consumer.mapping.as_slice())?;
     put_u32(writes, object, COB_ID, identifier)?;
     Ok(())
-}
-
-/// The consumer that is a node.
-fn consumer_at(consumers: &[Consumer], node: u8) -> Option<&Consumer>
-    ensures { option_copied result ≡ find (λ k. k.node == node) consumers.now }
-{
-    consumers.iter().find(|consumer| consumer.node == node)
 }
 
 /// The RPDO by which a node takes a message of a plan.

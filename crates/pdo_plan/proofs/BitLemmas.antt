@@ -7,15 +7,17 @@ use Rattle.std.specs.Option.{option_or, unwrap_or}
 use Rattle.std.proofs.lemmas.List.Elements.{All-from_recursion}
 use Rattle.project_messages.specs.declared.linked.Linked.{Linked}
 use Rattle.project_messages.specs.Messages.{sink_at}
-use Rattle.pdo_plan.specs.declared.clean.Clean.{Clean}
-use Rattle.pdo_plan.specs.declared.consumer.Consumer.{Consumer}
+use Rattle.pdo_choices.specs.declared.clean.Clean.{Clean}
+use Rattle.pdo_choices.specs.declared.consumer.Consumer.{Consumer}
 use Rattle.pdo_stations.specs.declared.mapped.Mapped.{Mapped}
 use Rattle.pdo_plan.specs.declared.outcome.Outcome.TheVariants.{Planned}
 use Rattle.pdo_stations.specs.Devices.{Devices, width_at}
 use Rattle.pdo_stations.specs.Dummies.{mapped_to, dummy_type, dummy_for}
-use Rattle.pdo_plan.specs.Mapping.{Sources, Sinks, mapping_bits, source_bits, bits_of, sent_mapping, taken_at}
+use Rattle.pdo_plan.specs.Mapping.{Sources, mapping_bits, source_bits, bits_of, sent_mapping, taken_at}
+use Rattle.pdo_choices.specs.Consumers.{Sinks, consumers_of}
 use Rattle.pdo_plan.specs.Mapping.{taken_mapping}
-use Rattle.pdo_plan.specs.Plan.{Had, Withheld, had_by, judged_message, consumer_of, consumers_of, planned_consumers, clean}
+use Rattle.pdo_choices.specs.Had.{Had, Withheld, had_by}
+use Rattle.pdo_plan.specs.Plan.{judged_message, consumer_of, planned_consumers, clean}
 use Rattle.pdo_plan.specs.Plan.{plan_of, FitFrames}
 use Rattle.pdo_plan.proofs.CarriedLemmas.{fold_map}
 use Rattle.pdo_plan.proofs.ChainLemmas.{each_clean, all_clean}

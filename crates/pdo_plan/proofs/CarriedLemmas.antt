@@ -12,7 +12,8 @@ use Rattle.co_dict.specs.declared.direction.Direction.TheVariants.{Transmit}
 use Rattle.pdo_stations.specs.declared.carried.Carried.{Carried}
 use Rattle.pdo_stations.specs.declared.mapped.Mapped.{Mapped}
 use Rattle.pdo_stations.specs.Devices.{Devices, can_map, width_at}
-use Rattle.pdo_plan.specs.Mapping.{Sources, Sinks, bits_of, sent_mapping, taken_mapping, lacks_dummy_at, is_mismatched}
+use Rattle.pdo_plan.specs.Mapping.{Sources, bits_of, sent_mapping, taken_mapping, lacks_dummy_at, is_mismatched}
+use Rattle.pdo_choices.specs.Consumers.{Sinks}
 use Rattle.pdo_plan.specs.Mapping.{differ}
 use Rattle.pdo_stations.specs.Carried.{carried_by, carried_of, bits_in, total_bits, sent_by, taken_by, taken_of_all}
 use Rattle.pdo_stations.specs.Carried.{lacks_some, lacks_dummy_for, carried_at}

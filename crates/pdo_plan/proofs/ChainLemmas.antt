@@ -7,12 +7,12 @@ use Rattle.std.proofs.lemmas.List.{append-nil}
 use Rattle.std.proofs.lemmas.List.Elements.{All-head, All-tail, All-from_recursion}
 use Rattle.project_messages.specs.declared.linked.Linked.{Linked}
 use Rattle.project_messages.specs.Messages.{IsLinked}
-use Rattle.pdo_plan.specs.declared.clean.Clean.{Clean}
+use Rattle.pdo_choices.specs.declared.clean.Clean.{Clean}
 use Rattle.pdo_plan.specs.declared.outcome.Outcome.{Outcome}
 use Rattle.pdo_plan.specs.declared.outcome.Outcome.TheVariants.{Planned, Faulty}
 use Rattle.pdo_stations.specs.Devices.{Devices}
-use Rattle.pdo_plan.specs.Plan.{Withheld, had_by, judged_message, clean_of, clean, plan_after, plan_of}
-use Rattle.pdo_plan.specs.Plan.{withheld_by}
+use Rattle.pdo_choices.specs.Had.{Withheld, had_by, withheld_by}
+use Rattle.pdo_plan.specs.Plan.{judged_message, clean_of, clean, plan_after, plan_of}
 
 -- each is so after those before it
 abbrev pub Each : (List Clean → Clean → Type 0) → List Clean → List Clean → Type 0

@@ -12,11 +12,16 @@ use Rattle.pdo_stations.specs.Devices.{Devices}
 use Rattle.pdo_plan.specs.Mapping.{sent_mapping}
 use Rattle.pdo_stations.specs.Carried.{carried_by, carried_of, sent_by}
 use Rattle.pdo_plan.specs.Carried.{consumer_by, clean_by}
-use Rattle.pdo_plan.specs.Plan.{Had, event_named, rpdo_by, rpdo_for, identifier_for, consumer_of, consumers_of}
-use Rattle.pdo_plan.specs.Plan.{planned_consumers, faults, sought_identifier}
+use Rattle.pdo_choices.specs.Had.{Had}
+use Rattle.pdo_choices.specs.Receives.{event_named}
+use Rattle.pdo_choices.specs.Rpdos.{rpdo_by, rpdo_for}
+use Rattle.pdo_choices.specs.Identifiers.{identifier_for, sought_identifier}
+use Rattle.pdo_plan.specs.Plan.{consumer_of}
+use Rattle.pdo_choices.specs.Consumers.{consumers_of}
+use Rattle.pdo_plan.specs.Plan.{planned_consumers, faults}
 use Rattle.pdo_plan.specs.Plan.{message_outcome, judged_message}
 use Rattle.pdo_plan.proofs.CarriedLemmas.{sent_same, taken_same}
-use Rattle.pdo_plan.proofs.JudgedLemmas.{sought_same}
+use Rattle.pdo_choices.proofs.IdentifierLemmas.{sought_same}
 use Rattle.pdo_plan.proofs.LimitLemmas.{limits_of}
 
 module _ (had : Had) (devices : Devices) (m : Linked) where

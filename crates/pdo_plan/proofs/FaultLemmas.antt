@@ -13,8 +13,12 @@ use Rattle.pdo_plan.specs.declared.message_fault.MessageFault.TheVariants.{BadId
 use Rattle.pdo_stations.specs.Devices.{Devices}
 use Rattle.pdo_stations.specs.Carried.{carried_by, carried_of, total_bits, lacks_some}
 use Rattle.pdo_plan.specs.Carried.{has_objects_by, mismatches}
-use Rattle.pdo_plan.specs.Plan.{Had, rpdo_by, rpdo_for, identifier_for, has_named_objects, has_unmappable}
-use Rattle.pdo_plan.specs.Plan.{consumers_of, faults_that_hold, faults, serves_message, sought_identifier}
+use Rattle.pdo_choices.specs.Had.{Had}
+use Rattle.pdo_choices.specs.Rpdos.{rpdo_by, rpdo_for}
+use Rattle.pdo_choices.specs.Identifiers.{identifier_for, sought_identifier}
+use Rattle.pdo_plan.specs.Plan.{has_named_objects, has_unmappable}
+use Rattle.pdo_choices.specs.Consumers.{consumers_of}
+use Rattle.pdo_plan.specs.Plan.{faults_that_hold, faults, serves_message}
 use Rattle.pdo_plan.proofs.CarriedLemmas.{bits_same, lacks_same, mismatch_same}
 
 -- the faults as they are tested

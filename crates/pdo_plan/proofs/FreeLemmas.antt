@@ -13,19 +13,23 @@ use Rattle.std.proofs.lemmas.Cmp.{ranked}
 use Rattle.std.proofs.lemmas.List.Kept.{IsStrictlySortedBy-filter}
 use Rattle.project_messages.specs.declared.linked.Linked.{Linked}
 use Rattle.project_messages.specs.declared.message.Message.{Message}
-use Rattle.pdo_plan.specs.declared.clean.Clean.{Clean}
-use Rattle.pdo_plan.specs.declared.consumer.Consumer.{Consumer}
+use Rattle.pdo_choices.specs.declared.clean.Clean.{Clean}
+use Rattle.pdo_choices.specs.declared.consumer.Consumer.{Consumer}
 use Rattle.pdo_plan.specs.declared.message_fault.MessageFault.{MessageFault}
 use Rattle.pdo_plan.specs.declared.message_fault.MessageFault.TheVariants.{NoObjects, TpdoTaken, TooManyBits}
 use Rattle.pdo_plan.specs.declared.outcome.Outcome.TheVariants.{Planned}
 use Rattle.pdo_stations.specs.Devices.{Devices}
 use Rattle.pdo_plan.specs.Mapping.{bits_of}
-use Rattle.pdo_plan.specs.Plan.{Had, Withheld, had_by, is_at_node, judged_message, faults, faults_that_hold, identifier_for}
-use Rattle.pdo_plan.specs.Plan.{has_objects, consumer_of, consumers_of, planned_consumers, clean, plan_of}
+use Rattle.pdo_choices.specs.Had.{Had, Withheld, had_by, is_at_node}
+use Rattle.pdo_plan.specs.Plan.{judged_message, faults, faults_that_hold}
+use Rattle.pdo_choices.specs.Identifiers.{identifier_for}
+use Rattle.pdo_plan.specs.Plan.{has_objects, consumer_of, planned_consumers, clean, plan_of}
+use Rattle.pdo_choices.specs.Consumers.{consumers_of}
 use Rattle.pdo_plan.proofs.ChainLemmas.{each_clean, at_place, had_earlier}
-use Rattle.pdo_plan.proofs.JudgedLemmas.{judged_clean, identifier_fine, tests_with, noted_some, consumer_is}
-use Rattle.pdo_plan.proofs.OrderLemmas.{consumers_sorted, once, get_map}
-use Rattle.pdo_plan.proofs.RpdoLemmas.{rpdo_free}
+use Rattle.pdo_plan.proofs.JudgedLemmas.{judged_clean, tests_with, noted_some, consumer_is}
+use Rattle.pdo_choices.proofs.IdentifierLemmas.{identifier_fine}
+use Rattle.pdo_choices.proofs.OrderLemmas.{consumers_sorted, once, get_map}
+use Rattle.pdo_choices.proofs.RpdoLemmas.{rpdo_free}
 
 -- ---- tests that didn't hold
 

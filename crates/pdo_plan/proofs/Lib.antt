@@ -6,14 +6,9 @@ pub mod CleanLemmas
 pub mod FaultLemmas
 pub mod FreeLemmas
 pub mod JudgedLemmas
-pub mod LeastLemmas
 pub mod LimitLemmas
 pub mod MadeLemmas
 pub mod NamedLemmas
-pub mod NamingLemmas
-pub mod OrderLemmas
 pub mod PlaceLemmas
 pub mod PlanLemmas
-pub mod RpdoLemmas
 pub mod ServedLemmas
-pub mod SpareLemmas

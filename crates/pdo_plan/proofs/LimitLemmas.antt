@@ -9,13 +9,10 @@ use Rattle.std.proofs.lemmas.Bool.Decides.{nat_tests}
 use Rattle.std.proofs.lemmas.List.{length-map}
 use Rattle.std.proofs.lemmas.List.Elements.{All-cons, All-map, All-weaker, recursion_from_All}
 use Rattle.std.proofs.lemmas.Map.Views.{length-le_from_below}
-use Rattle.base.specs.Ranges.{is_between}
 use Rattle.project_messages.specs.declared.linked.Linked.{Linked}
 use Rattle.project_messages.specs.Messages.{is_position, IsMessage, AreSources, IsLinked}
 use Rattle.pdo_plan.specs.Mapping.{Sources}
-
-pub between : (low high n : ℕ) → is_between low high n ≡ true → (low ≤ n) × (n ≤ high)
-between low high n e = (grind (arith, nat_tests), grind (arith, nat_tests))
+use Rattle.pdo_choices.proofs.RangeLemmas.{between}
 
 above_none : (n : ℕ) → is_position n ≡ true → nat_cmp 0 n ≡ Less
 above_none n e = grind (arith, nat_tests)
@@ -53,6 +50,3 @@ limits_of m kept = record {
   cob = (between 0 0x7FF m.message.cob kept.0.2).1;
   sources = few_sources m.sources kept.2;
 }
-
-pub is_within : (low high n : ℕ) → low ≤ n → n ≤ high → is_between low high n ≡ true
-is_within low high n from to = grind (arith, nat_tests)

@@ -12,20 +12,24 @@ use Rattle.eds_device.specs.Entries.{entry_at}
 use Rattle.project_messages.specs.declared.linked.Linked.{Linked}
 use Rattle.project_messages.specs.declared.message.Message.{Message}
 use Rattle.project_messages.specs.Messages.{IsLinked}
-use Rattle.pdo_plan.specs.declared.clean.Clean.{Clean}
-use Rattle.pdo_plan.specs.declared.consumer.Consumer.{Consumer}
+use Rattle.pdo_choices.specs.declared.clean.Clean.{Clean}
+use Rattle.pdo_choices.specs.declared.consumer.Consumer.{Consumer}
 use Rattle.pdo_plan.specs.declared.outcome.Outcome.TheVariants.{Planned}
-use Rattle.pdo_plan.specs.Least.{IsLeastFree}
+use Rattle.pdo_choices.specs.Least.{IsLeastFree}
 use Rattle.pdo_stations.specs.Carried.{carried_by, carried_of}
 use Rattle.std.proofs.lemmas.List.{length-map}
 use Rattle.pdo_stations.specs.Devices.{Devices, devices_of, has_unsigned, has_mapping, has_pdo}
 use Rattle.cia301.specs.PdoObjects.{mapping_object, tpdo_object, rpdo_object}
-use Rattle.pdo_plan.specs.Plan.{Had, Withheld, had_by, is_free_rpdo, judged_message, rpdo_for, consumer_of, consumers_of, planned_consumers, clean}
+use Rattle.pdo_choices.specs.Had.{Had, Withheld, had_by}
+use Rattle.pdo_choices.specs.Rpdos.{is_free_rpdo, rpdo_for}
+use Rattle.pdo_plan.specs.Plan.{judged_message, consumer_of, planned_consumers, clean}
+use Rattle.pdo_choices.specs.Consumers.{consumers_of}
 use Rattle.pdo_plan.specs.Plan.{plan_of, HasPdo, IsMadeFor}
 use Rattle.pdo_plan.proofs.ChainLemmas.{each_clean, each_within, all_clean}
 use Rattle.pdo_plan.proofs.FreeLemmas.{faultless}
-use Rattle.pdo_plan.proofs.JudgedLemmas.{judged_clean, each_given, consumer_is, identifier_fine, sent_count, taken_few}
-use Rattle.pdo_plan.proofs.LeastLemmas.{least_free_is}
+use Rattle.pdo_plan.proofs.JudgedLemmas.{judged_clean, each_given, consumer_is, sent_count, taken_few}
+use Rattle.pdo_choices.proofs.IdentifierLemmas.{identifier_fine}
+use Rattle.pdo_choices.proofs.LeastLemmas.{least_free_is}
 use Rattle.pdo_plan.proofs.LimitLemmas.{limits_of}
 use Rattle.pdo_stations.proofs.RoomLemmas.{all_pass, one_fails}
 use Rattle.pdo_stations.proofs.AlikeLemmas.{pdo_alike}

@@ -19,7 +19,7 @@ use Rattle.cia301.specs.TransmissionTypes.{is_reserved, type_of_byte}
 use Rattle.eds_device.specs.Entries.{entry_at, dummy_allowed}
 use Rattle.project_messages.specs.declared.linked.Linked.{Linked}
 use Rattle.project_messages.specs.Messages.{source_at, is_of_message, is_of_messages, Named}
-use Rattle.pdo_plan.specs.declared.clean.Clean.{Clean}
+use Rattle.pdo_choices.specs.declared.clean.Clean.{Clean}
 use Rattle.pdo_plan.specs.declared.message_fault.MessageFault.{MessageFault}
 use Rattle.pdo_plan.specs.declared.message_fault.MessageFault.TheVariants.{NoObjects, TpdoTaken, TooManyBits}
 use Rattle.pdo_plan.specs.declared.message_fault.MessageFault.TheVariants.{NotMappable, Mismatched, NoRpdo, NoDummy}
@@ -28,20 +28,24 @@ use Rattle.pdo_plan.specs.declared.outcome.Outcome.TheVariants.{Planned}
 use Rattle.pdo_plan.specs.declared.planned_message.PlannedMessage.{PlannedMessage}
 use Rattle.pdo_stations.specs.Devices.{Devices, devices_of, can_map}
 use Rattle.cia301.specs.PdoObjects.{rpdo_object, tpdo_object}
-use Rattle.pdo_plan.specs.Least.{least_free}
-use Rattle.pdo_plan.specs.Mapping.{Sinks, differ, bits_of, sent_mapping, taken_mapping, is_mismatched, lacks_dummy_at}
-use Rattle.pdo_plan.specs.Plan.{Had, Withheld, had_by, nodes_put, consumers_of, is_free_rpdo, rpdo_for, consumer_of}
-use Rattle.pdo_plan.specs.Plan.{planned_consumers, identifier_for, has_objects, has_unmappable, has_mismatch}
+use Rattle.pdo_choices.specs.Least.{least_free}
+use Rattle.pdo_choices.specs.Consumers.{Sinks, nodes_put, consumers_of}
+use Rattle.pdo_plan.specs.Mapping.{differ, bits_of, sent_mapping, taken_mapping, is_mismatched, lacks_dummy_at}
+use Rattle.pdo_choices.specs.Had.{Had, Withheld, had_by, withheld_by}
+use Rattle.pdo_choices.specs.Rpdos.{is_free_rpdo, rpdo_for, vendor_rpdo}
+use Rattle.pdo_plan.specs.Plan.{consumer_of}
+use Rattle.pdo_plan.specs.Plan.{planned_consumers, has_objects, has_unmappable, has_mismatch}
+use Rattle.pdo_choices.specs.Identifiers.{identifier_for, automatic, explicit, fixed_for, sought_identifier}
 use Rattle.pdo_plan.specs.Plan.{lacks_rpdo, lacks_dummy, faults_that_hold, faults, message_outcome, judged_message}
-use Rattle.pdo_plan.specs.Plan.{planned_message, clean, plan_after, plan_of, withheld_by, names_rpdo}
-use Rattle.pdo_plan.specs.Plan.{automatic, event_named, explicit, fixed_for, has_named_objects, serves_message}
-use Rattle.pdo_plan.specs.Plan.{sought_identifier, vendor_rpdo}
+use Rattle.pdo_plan.specs.Plan.{planned_message, clean, plan_after, plan_of}
+use Rattle.pdo_choices.specs.Receives.{names_rpdo, event_named}
+use Rattle.pdo_plan.specs.Plan.{has_named_objects, serves_message}
 use Rattle.project_messages.specs.declared.message.Message.{Message}
 use Rattle.pdo_stations.specs.Carried.{carried_by, carried_of}
 use Rattle.pdo_stations.specs.declared.as_made.AsMade.{AsMade}
 use Rattle.std.proofs.lemmas.List.{length-map}
 use Rattle.vendor_pdos.specs.Fixed.{fixed_at, fixed_identifier, fixes, is_withheld}
-use Rattle.pdo_plan.proofs.OrderLemmas.{all_inserted}
+use Rattle.pdo_choices.proofs.OrderLemmas.{all_inserted}
 use Rattle.pdo_stations.proofs.AlikeLemmas.{pdo_alike, start_alike, times_alike}
 
 -- ---- lists

@@ -4,12 +4,13 @@ use Rattle.std.proofs.Common.{◌∙◌}
 use Rattle.std.specs.List.{slice_get}
 use Rattle.std.proofs.lemmas.List.{append-nil}
 use Rattle.project_messages.specs.declared.linked.Linked.{Linked}
-use Rattle.pdo_plan.specs.declared.clean.Clean.{Clean}
+use Rattle.pdo_choices.specs.declared.clean.Clean.{Clean}
 use Rattle.pdo_plan.specs.declared.outcome.Outcome.{Outcome}
 use Rattle.pdo_plan.specs.declared.outcome.Outcome.TheVariants.{Planned, Faulty}
 use Rattle.pdo_plan.specs.declared.planned_message.PlannedMessage.{PlannedMessage}
 use Rattle.pdo_stations.specs.Devices.{Devices}
-use Rattle.pdo_plan.specs.Plan.{Withheld, had_by, planned_message, clean, plan_after, plan_of, withheld_by}
+use Rattle.pdo_choices.specs.Had.{Withheld, had_by, withheld_by}
+use Rattle.pdo_plan.specs.Plan.{planned_message, clean, plan_after, plan_of}
 
 more : (before : List Clean) (name : List ℕ) (o : Outcome) (ps : List PlannedMessage)
     → let p : PlannedMessage = record { name = name; outcome = o }

@@ -7,13 +7,15 @@ use Rattle.std.proofs.lemmas.List.Elements.{filter_map-append, All-nil, All-cons
 use Rattle.std.proofs.lemmas.List.{append-nil}
 use Rattle.std.proofs.lemmas.List.Folds.{list_any-append}
 use Rattle.project_messages.specs.declared.linked.Linked.{Linked}
-use Rattle.pdo_plan.specs.declared.clean.Clean.{Clean}
+use Rattle.pdo_choices.specs.declared.clean.Clean.{Clean}
 use Rattle.pdo_plan.specs.declared.outcome.Outcome.{Outcome}
 use Rattle.pdo_plan.specs.declared.outcome.Outcome.TheVariants.{Planned, Faulty}
 use Rattle.pdo_plan.specs.declared.planned_message.PlannedMessage.{PlannedMessage}
 use Rattle.pdo_stations.specs.Devices.{Devices}
-use Rattle.pdo_plan.specs.Plan.{Had, Withheld, had_by, is_at_node, planned_message, clean_of, clean, plan_after, IsWithin}
-use Rattle.pdo_plan.specs.Taken.{had_too, had_after}
+use Rattle.pdo_choices.specs.Had.{Had, Withheld, had_by, is_at_node, had_too}
+use Rattle.pdo_plan.specs.Plan.{planned_message, clean_of, clean, plan_after}
+use Rattle.pdo_choices.specs.Limits.{IsWithin}
+use Rattle.pdo_plan.specs.Plan.{had_after}
 
 or_false : (a b : Bool) → a || b ≡ a || (b || false)
 or_false true b = refl

@@ -11,16 +11,21 @@ use Rattle.pdo_stations.specs.declared.as_made.AsMade.{AsMade}
 use Rattle.pdo_stations.specs.declared.carried.Carried.{Carried}
 use Rattle.vendor_pdos.specs.Choices.{taken_choices}
 use Rattle.vendor_pdos.specs.Serving.{takes}
-use Rattle.pdo_plan.specs.declared.clean.Clean.{Clean}
-use Rattle.pdo_plan.specs.declared.consumer.Consumer.{Consumer}
+use Rattle.pdo_choices.specs.declared.clean.Clean.{Clean}
+use Rattle.pdo_choices.specs.declared.consumer.Consumer.{Consumer}
 use Rattle.pdo_plan.specs.declared.outcome.Outcome.TheVariants.{Planned}
-use Rattle.pdo_plan.specs.Least.{least_free}
-use Rattle.pdo_plan.specs.Plan.{Had, consumer_of, consumers_of, has_named_objects, is_free_rpdo, judged_message}
-use Rattle.pdo_plan.specs.Plan.{planned_consumers, rpdo_by, rpdo_for, serves_message, sought_identifier, vendor_rpdo}
+use Rattle.pdo_choices.specs.Least.{least_free}
+use Rattle.pdo_choices.specs.Had.{Had}
+use Rattle.pdo_plan.specs.Plan.{consumer_of, has_named_objects, judged_message}
+use Rattle.pdo_choices.specs.Consumers.{consumers_of}
+use Rattle.pdo_choices.specs.Rpdos.{is_free_rpdo, rpdo_by, rpdo_for, vendor_rpdo}
+use Rattle.pdo_plan.specs.Plan.{planned_consumers, serves_message}
+use Rattle.pdo_choices.specs.Identifiers.{sought_identifier}
 use Rattle.pdo_plan.specs.Plan.{IsServed}
 use Rattle.pdo_plan.proofs.FreeLemmas.{faultless}
-use Rattle.pdo_plan.proofs.JudgedLemmas.{judged_clean, each_given, consumer_is, sought_same}
-use Rattle.pdo_plan.proofs.RpdoLemmas.{right_true, vendor_found}
+use Rattle.pdo_plan.proofs.JudgedLemmas.{judged_clean, each_given, consumer_is}
+use Rattle.pdo_choices.proofs.IdentifierLemmas.{sought_same}
+use Rattle.pdo_choices.proofs.RpdoLemmas.{right_true, vendor_found}
 
 module _ (had : Had) (devices : Devices) (made : ℕ → Option AsMade) (m : Linked) (vendor : devices.vendor ≡ Some made) where
   abbrev sources : List Carried

@@ -4,12 +4,15 @@ use Rattle.std.specs.Option.{option_map_or}
 use Rattle.co_dict.specs.declared.direction.Direction.TheVariants.{Receive}
 use Rattle.project_messages.specs.declared.linked.Linked.{Linked}
 use Rattle.pdo_stations.specs.declared.carried.Carried.{Carried}
-use Rattle.pdo_plan.specs.declared.clean.Clean.{Clean}
-use Rattle.pdo_plan.specs.declared.consumer.Consumer.{Consumer}
+use Rattle.pdo_choices.specs.declared.clean.Clean.{Clean}
+use Rattle.pdo_choices.specs.declared.consumer.Consumer.{Consumer}
 use Rattle.pdo_stations.specs.Carried.{carried_at, sent_by, taken_of_all}
 use Rattle.pdo_stations.specs.Devices.{Devices, can_map, width_at}
 use Rattle.pdo_plan.specs.Mapping.{differ}
-use Rattle.pdo_plan.specs.Plan.{Had, event_named, has_named_objects, rpdo_by, serves_message}
+use Rattle.pdo_choices.specs.Had.{Had}
+use Rattle.pdo_choices.specs.Receives.{event_named}
+use Rattle.pdo_plan.specs.Plan.{has_named_objects, serves_message}
+use Rattle.pdo_choices.specs.Rpdos.{rpdo_by}
 
 -- a sink that isn't there or no RPDO can map, or that is on the sender
 abbrev pub is_untakable : Devices → ℕ → (ℕ × ℕ) × (ℕ × ℕ) → Bool

@@ -7,6 +7,7 @@ use Rattle.project_messages.specs.Messages.{source_at, sink_at}
 use Rattle.pdo_stations.specs.declared.mapped.Mapped.{Mapped}
 use Rattle.pdo_stations.specs.Devices.{Devices, width_at}
 use Rattle.pdo_stations.specs.Dummies.{mapped_to, dummy_for}
+use Rattle.pdo_choices.specs.Consumers.{Sinks}
 
 -- a mapping entry in the mapping object: the bits, the sub-index and the index, the lowest byte first, as 20020010h is
 -- 10 00 02 20
@@ -20,10 +21,6 @@ mapping_bits mapping = sum_by (λ (m : Mapped). m.bits) mapping
 -- the sources of a message, by position, each an entry of the sender
 abbrev pub Sources : Type 0
 Sources = List (ℕ × (ℕ × ℕ))
-
--- and its sinks, by position and node, each an entry of that node
-abbrev pub Sinks : Type 0
-Sinks = List ((ℕ × ℕ) × (ℕ × ℕ))
 
 -- the bits of a source; one without a width adds nothing
 abbrev pub source_bits : Devices → ℕ → ℕ × (ℕ × ℕ) → ℕ

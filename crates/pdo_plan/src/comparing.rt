@@ -1,12 +1,11 @@
 //! Whether plans are the same.
 ghost use Rattle.std.specs.Prelude.{◌≡◌, ◌↔◌, IsTrue};
 
-use crate::clean::Clean;
-use crate::consumer::Consumer;
 use crate::message_fault::MessageFault;
 use crate::message_plan::Plan;
 use crate::outcome::Outcome;
 use crate::planned_message::PlannedMessage;
+use pdo_choices::{Clean, Consumer};
 use pdo_stations::Mapped;
 
 /// What a plan lists.

@@ -2,19 +2,19 @@
 ghost use Rattle.std.specs.Prelude.{◌≡◌, ◌≤◌, ◌==◌, ◌&&◌, not, length, is_none, is_some, IfOk};
 ghost use Rattle.std.specs.List.{list_any};
 ghost use Rattle.pdo_plan.specs.Carried.{has_objects_by};
-ghost use Rattle.pdo_plan.specs.Plan.{rpdo_by, identifier_for, sought_identifier, consumers_of, faults_that_hold, faults};
+ghost use Rattle.pdo_choices.specs.Rpdos.{rpdo_by};
+ghost use Rattle.pdo_choices.specs.Identifiers.{identifier_for, sought_identifier};
+ghost use Rattle.pdo_choices.specs.Consumers.{consumers_of};
+ghost use Rattle.pdo_plan.specs.Plan.{faults_that_hold, faults};
 ghost use Rattle.project_messages.specs.Messages.{IsLinked};
 ghost use Rattle.pdo_stations.specs.Carried.{carried_of, lacks_some};
 ghost use Rattle.pdo_stations.specs.Stations.{devices_in};
-ghost use Rattle.pdo_plan.specs.Taken.{devices_known, had_in};
+ghost use Rattle.pdo_choices.specs.Taken.{devices_known, had_in};
 
 use crate::entry_faults::entry_faults;
-use crate::listed::Listed;
 use crate::message_fault::MessageFault;
-use crate::rpdos::rpdo_by;
-use crate::taken::Taken;
-use crate::wish::Wish;
 use cia301::TransmissionType;
+use pdo_choices::{Listed, Taken, Wish, rpdo_by};
 use pdo_stations::{Carried, Stations, has_tpdo, lacks_dummy, total_bits};
 use project_messages::Sinks;
 use std::alloc::{AllocError, Global};

@@ -5,11 +5,10 @@ ghost use Rattle.base.specs.Fingerprint.{mix};
 ghost use Rattle.pdo_plan.specs.Fingerprint.{with_mapped, with_message, with_consumer, with_clean, with_outcome};
 ghost use Rattle.pdo_plan.specs.Fingerprint.{with_planned, fingerprint_of};
 
-use crate::clean::Clean;
-use crate::consumer::Consumer;
 use crate::outcome::Outcome;
 use crate::planned_message::PlannedMessage;
 use base::{mix, mix_bytes};
+use pdo_choices::{Clean, Consumer};
 use pdo_stations::Mapped;
 use project_messages::Message;
 

@@ -3,19 +3,13 @@ ghost use Rattle.std.specs.Prelude.{◌≡◌, ◌≤◌, length, filter_map, If
 ghost use Rattle.project_messages.specs.Messages.{IsLinked};
 ghost use Rattle.pdo_plan.specs.Carried.{consumer_by, clean_by};
 ghost use Rattle.pdo_plan.specs.Plan.{judged_message};
-ghost use Rattle.pdo_plan.specs.Taken.{devices_known, had_in};
+ghost use Rattle.pdo_choices.specs.Taken.{devices_known, had_in};
 
-use crate::clean::Clean;
-use crate::consumer::Consumer;
-use crate::consumers::consumers_of;
 use crate::faults::faults;
-use crate::identifiers::identifiers_of;
-use crate::listed::Listed;
-use crate::named::event_named;
 use crate::outcome::Outcome;
-use crate::rpdos::rpdo_by;
-use crate::taken::Taken;
-use crate::wish::Wish;
+use pdo_choices::{
+    Clean, Consumer, Listed, Taken, Wish, consumers_of, event_named, identifiers_of, rpdo_by,
+};
 use pdo_stations::{carried_sources, sent_mapping, taken_mapping};
 use project_messages::Linked;
 use std::alloc::{AllocError, Global};

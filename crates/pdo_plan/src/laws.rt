@@ -1,5 +1,5 @@
 //! Laws of the plan, each a function whose contract is the law.
-ghost use Rattle.std.specs.Prelude.{◌≡◌, ◌↔◌, ◌≤◌, ◌==◌, ℕ, Bool, false, true, List, [], length, take, All, Option, Some};
+ghost use Rattle.std.specs.Prelude.{◌≡◌, ◌≤◌, ◌==◌, ℕ, false, true, List, [], length, take, All, Option, Some};
 ghost use Rattle.std.specs.Prelude.{IsFalse, slice_get};
 ghost use Rattle.std.specs.FinMap as map;
 ghost use Rattle.std.specs.Map.{lookup};
@@ -7,25 +7,18 @@ ghost use Rattle.ini_text.specs.Content.{Section};
 ghost use Rattle.cia301.specs.CobIds.{is_restricted};
 ghost use Rattle.project_messages.specs.Messages.{is_of_messages, Named, IsLinked};
 ghost use Rattle.project_messages.specs.declared.linked.Linked.{Linked};
-ghost use Rattle.pdo_plan.specs.declared.clean.Clean.{Clean as Sent};
-ghost use Rattle.pdo_plan.specs.declared.consumer.Consumer.{Consumer as Taker};
+ghost use Rattle.pdo_choices.specs.declared.clean.Clean.{Clean as Sent};
+ghost use Rattle.pdo_choices.specs.declared.consumer.Consumer.{Consumer as Taker};
 ghost use Rattle.pdo_plan.specs.declared.message_fault.MessageFault.{MessageFault as Fault};
 ghost use Rattle.pdo_plan.specs.declared.outcome.Outcome.TheVariants as says;
 ghost use Rattle.pdo_plan.specs.declared.planned_message.PlannedMessage.{PlannedMessage as Said};
 ghost use Rattle.pdo_stations.specs.Devices.{Devices, devices_of};
 ghost use Rattle.pdo_stations.specs.declared.as_made.AsMade.{AsMade};
-ghost use Rattle.pdo_plan.specs.Least.{least_free, IsLeastFree};
-ghost use Rattle.pdo_plan.specs.Plan.{Had, had_by, identifier_for, faults, judged_message, planned_message, clean};
-ghost use Rattle.pdo_plan.specs.Plan.{withheld_by, IsServed};
+ghost use Rattle.pdo_choices.specs.Had.{Had, had_by, withheld_by};
+ghost use Rattle.pdo_choices.specs.Identifiers.{identifier_for};
+ghost use Rattle.pdo_plan.specs.Plan.{faults, judged_message, planned_message, clean};
+ghost use Rattle.pdo_plan.specs.Plan.{IsServed};
 ghost use Rattle.pdo_plan.specs.Plan.{plan_of, FitFrames, IsMadeFor};
-
-/// The least free number is free, and none of those before it is; there is none where no number is
-/// free.
-#[tactic(auto, using(crate::proofs::LeastLemmas::least_free_both))]
-pub fn least_free_is_least()
-    ensures { (is_free : ℕ → Bool) (first count : ℕ) (o : Option ℕ) → (o ≡ least_free is_free first count)
-        ↔ IsLeastFree is_free first count o }
-{}
 
 /// A message is clean where it has no fault, and else all its faults are said.
 pub fn a_message_without_a_fault_is_clean()

@@ -1,7 +1,8 @@
 //! The plan of messages.
 ghost use Rattle.std.specs.Prelude.{◌≡◌, All};
 ghost use Rattle.pdo_plan.specs.Fingerprint.{fingerprint_of};
-ghost use Rattle.pdo_plan.specs.Plan.{IsWithin, clean};
+ghost use Rattle.pdo_choices.specs.Limits.{IsWithin};
+ghost use Rattle.pdo_plan.specs.Plan.{clean};
 
 use crate::fingerprint::fingerprint_of;
 use crate::planned_message::PlannedMessage;
@@ -18,7 +19,8 @@ impl Model for Plan {
     ghost use Rattle.std.specs.Prelude.{◌≡◌, List, All};
     ghost use Rattle.pdo_plan.specs.declared.planned_message.PlannedMessage.{PlannedMessage};
     ghost use Rattle.pdo_plan.specs.Fingerprint.{fingerprint_of};
-    ghost use Rattle.pdo_plan.specs.Plan.{IsWithin, clean};
+    ghost use Rattle.pdo_choices.specs.Limits.{IsWithin};
+    ghost use Rattle.pdo_plan.specs.Plan.{clean};
 
     ghost Value = { List PlannedMessage };
 

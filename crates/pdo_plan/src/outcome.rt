@@ -1,8 +1,7 @@
 //! What the plan says of a message.
 
-use crate::clean::Clean;
-use crate::listed::Listed;
 use crate::message_fault::MessageFault;
+use pdo_choices::{Clean, Listed};
 
 /// What the plan says of a message.
 #[derive(Drop)]

@@ -2,17 +2,19 @@
 ghost use Rattle.std.specs.FinMap as map;
 ghost use Rattle.std.specs.Prelude.{◌≡◌, ◌∷◌, [], All, IfOk, IfSome, OnOk};
 ghost use Rattle.pdo_stations.specs.Devices.{devices_of};
-ghost use Rattle.pdo_plan.specs.Plan.{clean, clean_of, IsWithin, plan_of};
+ghost use Rattle.pdo_plan.specs.Plan.{clean, clean_of, plan_of};
+ghost use Rattle.pdo_choices.specs.Limits.{IsWithin};
 ghost use Rattle.pdo_stations.specs.Shown.{nodes_of};
-ghost use Rattle.pdo_plan.specs.Taken.{devices_known, had_in, had_after};
+ghost use Rattle.pdo_choices.specs.Taken.{devices_known, had_in};
+ghost use Rattle.pdo_plan.specs.Plan.{had_after};
 
 use crate::judging::judge;
 use crate::message_plan::Plan;
 use crate::outcome::Outcome;
 use crate::planned_message::PlannedMessage;
-use crate::taken::Taken;
 use base::Octets;
 use eds_device::DataSheet;
+use pdo_choices::Taken;
 use pdo_stations::Stations;
 use project_messages::Messages;
 use std::alloc::{AllocError, Global};

@@ -80,6 +80,17 @@ pub fn write_manager(
     Ok(())
 }
 
+/// Writes ` US DAYS`.
+fn write_period_and_day(out: &mut Vec<u8>, stamps: TimeStamps) -> Result<(), AllocError>
+    ensures written { OnOk result (out.new.items ≡ out.old.items ++ byte " " ∷ decimal stamps.period_us
+        ++ byte " " ∷ decimal stamps.first_day) }
+    ensures kept { OnErr result (StartsWith out.new.items out.old.items) }
+{
+    write_number(out, u64::from(stamps.period_us))?;
+    write_number(out, u64::from(stamps.first_day))?;
+    Ok(())
+}
+
 /// Writes `time-period US DAYS`.
 pub fn write_time_stamps(
     out: &mut Vec<u8>,
@@ -90,8 +101,7 @@ pub fn write_time_stamps(
     ensures kept { OnErr result (StartsWith out.new.items out.old.items) }
 {
     out.extend_from_slice(b"time-period")?;
-    write_number(out, u64::from(stamps.period_us))?;
-    write_number(out, u64::from(stamps.first_day))?;
+    write_period_and_day(out, stamps)?;
     out.push(b'\n')?;
     Ok(())
 }

@@ -12,9 +12,11 @@ use Rattle.project_messages.specs.Messages.{IsLinked}
 use Rattle.co_project.specs.Project.{Content}
 use Rattle.co_project.specs.Sound.{IsMessageOf, IsSound}
 use Rattle.pdo_stations.specs.Devices.{Devices, devices_of}
-use Rattle.pdo_plan.specs.declared.clean.Clean.{Clean}
-use Rattle.pdo_plan.specs.declared.consumer.Consumer.{Consumer}
-use Rattle.pdo_plan.specs.Plan.{clean, had_by, IsNumbered, IsWithin}
+use Rattle.pdo_choices.specs.declared.clean.Clean.{Clean}
+use Rattle.pdo_choices.specs.declared.consumer.Consumer.{Consumer}
+use Rattle.pdo_plan.specs.Plan.{clean}
+use Rattle.pdo_choices.specs.Had.{had_by}
+use Rattle.pdo_choices.specs.Limits.{IsNumbered, IsWithin}
 use Rattle.pdo_plan.proofs.ChainLemmas.{all_clean, each_within}
 use Rattle.pdo_plan.proofs.FreeLemmas.{apart_at, rpdos_apart, tpdos_apart}
 use Rattle.pdo_plan.proofs.JudgedLemmas.{clean_within}

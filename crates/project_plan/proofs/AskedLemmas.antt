@@ -18,9 +18,10 @@ use Rattle.project_messages.specs.declared.message.Message.{Message}
 use Rattle.co_project.specs.Project.{Content}
 use Rattle.pdo_stations.specs.Devices.{Devices, devices_of, has_unsigned, takes_unsigned}
 use Rattle.cia301.specs.PdoObjects.{mapping_object, tpdo_object}
-use Rattle.pdo_plan.specs.declared.clean.Clean.{Clean}
+use Rattle.pdo_choices.specs.declared.clean.Clean.{Clean}
 use Rattle.pdo_plan.specs.declared.outcome.Outcome.TheVariants.{Planned}
-use Rattle.pdo_plan.specs.Plan.{Withheld, clean, had_by, judged_message, plan_of}
+use Rattle.pdo_choices.specs.Had.{Withheld, had_by}
+use Rattle.pdo_plan.specs.Plan.{clean, judged_message, plan_of}
 use Rattle.pdo_plan.proofs.ChainLemmas.{all_clean, each_clean}
 use Rattle.pdo_plan.proofs.FreeLemmas.{faultless}
 use Rattle.pdo_plan.proofs.JudgedLemmas.{judged_clean}

@@ -27,7 +27,7 @@ use Rattle.eds_dcf.proofs.AgainLemmas.{printed_some}
 use Rattle.eds_dcf.proofs.CarriedLemmas.{dcf_entry, keep_some, text_stands, typed}
 use Rattle.eds_dcf.proofs.EntryLemmas.{left_holds}
 use Rattle.eds_dcf.proofs.WholeLemmas.{dcf_stands}
-use Rattle.project_plan.specs.Files.{value_given}
+use Rattle.project_plan.specs.Files.{value_in_file}
 use Rattle.project_plan.proofs.ValueLemmas.{IsGiven}
 
 -- ---- types that aren't modelled
@@ -105,8 +105,8 @@ module _ (ss : List Section) (node : ℕ) (name : List ℕ) (bitrate : ℕ) (ws 
       ∙ keep_some (text_of_value entry.kind bytes) (printed_some entry.kind bytes modelled given.some) in
       rw (writable, text) again
 
-  pub given : (place : ℕ × ℕ) → value_given (dcf_sections ss node name bitrate ws) node place ≡ last_of ws place
-  unfolding value_given
+  pub given : (place : ℕ × ℕ) → value_in_file (dcf_sections ss node name bitrate ws) node place ≡ last_of ws place
+  unfolding value_in_file
   given place = ap (option_and_then (given_by place)) (dcf_entry ss node name bitrate ws place.0 place.1)
       ∙ by (entry_at ss node place.0 place.1) (last_of ws place) refl refl (left place)
     where

@@ -41,7 +41,7 @@ use Rattle.co_project.specs.Project.{Content}
 use Rattle.co_project.specs.Sound.{IsNodeOf}
 use Rattle.project_plan.specs.Network.{plan_of_project, writes_of, Member}
 use Rattle.project_plan.proofs.NetworkLemmas.{made_for_member}
-use Rattle.project_plan.specs.Files.{dcf_text, value_given}
+use Rattle.project_plan.specs.Files.{dcf_text, value_in_file}
 use Rattle.project_plan.specs.Nodes.{IsSoundNode}
 use Rattle.project_plan.proofs.AloneLemmas.{all_within, within}
 use Rattle.project_plan.proofs.DcfLemmas.{given, left_alone, to_another}
@@ -140,9 +140,9 @@ module _ (project : Content) (id : ℕ) (m : Member) (node : IsSoundNode project
   unfolding dcf_text
   again = dcf_again m.sections id m.node.name project.bitrate (writes_of project m id) printable label all_stand
 
-  pub values : (place : ℕ × ℕ) → value_given (content_of (dcf_text project id m)).sections id place
+  pub values : (place : ℕ × ℕ) → value_in_file (content_of (dcf_text project id m)).sections id place
       ≡ last_of (writes_of project m id) place
-  values place = ap (λ (ss : List Section). value_given ss id place) again
+  values place = ap (λ (ss : List Section). value_in_file ss id place) again
       ∙ given m.sections id m.node.name project.bitrate (writes_of project m id) all place
 
   -- the plan writes PDOs alone

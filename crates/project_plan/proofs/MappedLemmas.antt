@@ -24,11 +24,13 @@ use Rattle.node_parameters.proofs.WrittenLemmas.{All-filter_map}
 use Rattle.pdo_stations.specs.declared.mapped.Mapped.{Mapped}
 use Rattle.pdo_stations.specs.Devices.{Devices, devices_of, width_at}
 use Rattle.pdo_stations.specs.Dummies.{dummy_for, dummy_type, mapped_to}
-use Rattle.pdo_plan.specs.declared.clean.Clean.{Clean}
-use Rattle.pdo_plan.specs.declared.consumer.Consumer.{Consumer}
+use Rattle.pdo_choices.specs.declared.clean.Clean.{Clean}
+use Rattle.pdo_choices.specs.declared.consumer.Consumer.{Consumer}
 use Rattle.pdo_plan.specs.declared.outcome.Outcome.TheVariants.{Planned}
-use Rattle.pdo_plan.specs.Mapping.{mapped_bytes, sent_mapping, source_bits, taken_at, taken_mapping, Sinks, Sources}
-use Rattle.pdo_plan.specs.Plan.{clean, consumer_of, consumers_of, had_by, judged_message, planned_consumers, Had, Withheld}
+use Rattle.pdo_plan.specs.Mapping.{mapped_bytes, sent_mapping, source_bits, taken_at, taken_mapping, Sources}
+use Rattle.pdo_choices.specs.Consumers.{Sinks, consumers_of}
+use Rattle.pdo_plan.specs.Plan.{clean, consumer_of, judged_message, planned_consumers}
+use Rattle.pdo_choices.specs.Had.{had_by, Had, Withheld}
 use Rattle.pdo_plan.proofs.ChainLemmas.{all_clean, each_within}
 use Rattle.pdo_plan.proofs.JudgedLemmas.{consumer_is, each_given, judged_clean}
 use Rattle.pdo_links.specs.Tables.{AreMapped}

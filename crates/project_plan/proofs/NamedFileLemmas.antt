@@ -14,16 +14,17 @@ use Rattle.project_messages.specs.Messages.{is_of_messages, is_of_message}
 use Rattle.node_parameters.proofs.WrittenLemmas.{from_filter_map}
 use Rattle.co_project.specs.Project.{Content}
 use Rattle.pdo_stations.specs.Devices.{Devices, devices_of}
-use Rattle.pdo_plan.specs.declared.clean.Clean.{Clean}
-use Rattle.pdo_plan.specs.declared.consumer.Consumer.{Consumer}
+use Rattle.pdo_choices.specs.declared.clean.Clean.{Clean}
+use Rattle.pdo_choices.specs.declared.consumer.Consumer.{Consumer}
 use Rattle.pdo_plan.specs.declared.outcome.Outcome.{Outcome}
 use Rattle.pdo_plan.specs.declared.outcome.Outcome.TheVariants.{Planned, Faulty}
 use Rattle.pdo_plan.specs.declared.planned_message.PlannedMessage.{PlannedMessage}
-use Rattle.pdo_plan.specs.Mapping.{Sinks}
-use Rattle.pdo_plan.specs.Plan.{Had, Withheld, clean, consumer_of, consumers_of, had_by, judged_message, nodes_put}
-use Rattle.pdo_plan.specs.Plan.{planned_consumers, plan_after, plan_of, planned_message, withheld_by}
+use Rattle.pdo_choices.specs.Consumers.{Sinks, consumers_of, nodes_put}
+use Rattle.pdo_choices.specs.Had.{Had, Withheld, had_by, withheld_by}
+use Rattle.pdo_plan.specs.Plan.{clean, consumer_of, judged_message}
+use Rattle.pdo_plan.specs.Plan.{planned_consumers, plan_after, plan_of, planned_message}
 use Rattle.pdo_plan.proofs.JudgedLemmas.{consumer_is, judged_clean}
-use Rattle.pdo_plan.proofs.OrderLemmas.{all_inserted}
+use Rattle.pdo_choices.proofs.OrderLemmas.{all_inserted}
 use Rattle.pdo_links.specs.Order.{IsNamedByNone}
 use Rattle.project_edits.specs.Versions.{is_three}
 use Rattle.project_plan.specs.Network.{sections_of_members, plan_of_project}

@@ -28,12 +28,13 @@ use Rattle.node_parameters.proofs.ParameterLemmas.{nothing_else, pdo_text}
 use Rattle.eds_device.specs.Entries.{entry_at}
 use Rattle.pdo_stations.specs.declared.mapped.Mapped.{Mapped}
 use Rattle.pdo_stations.specs.Devices.{takes_unsigned}
-use Rattle.pdo_plan.specs.declared.clean.Clean.{Clean}
-use Rattle.pdo_plan.specs.declared.consumer.Consumer.{Consumer}
+use Rattle.pdo_choices.specs.declared.clean.Clean.{Clean}
+use Rattle.pdo_choices.specs.declared.consumer.Consumer.{Consumer}
 use Rattle.pdo_plan.specs.declared.planned_message.PlannedMessage.{PlannedMessage}
 use Rattle.pdo_plan.specs.Mapping.{mapped_bytes}
-use Rattle.pdo_plan.specs.Plan.{clean, IsNumbered, IsWithin}
-use Rattle.pdo_plan.proofs.LimitLemmas.{between}
+use Rattle.pdo_plan.specs.Plan.{clean}
+use Rattle.pdo_choices.specs.Limits.{IsNumbered, IsWithin}
+use Rattle.pdo_choices.proofs.RangeLemmas.{between}
 use Rattle.pdo_links.specs.Order.{IsOfSent, IsOfTaken, IsSentAlone, IsTakenAlone}
 use Rattle.pdo_links.specs.PdoWrites.{write_at, cob_write, taken_type, mapped_writes, mapping_writes}
 use Rattle.pdo_links.specs.Writes.{start_write}

@@ -5,7 +5,7 @@ use Rattle.std.specs.List.{list_any}
 use Rattle.std.specs.Option.{option_map_or}
 use Rattle.co_dict.specs.Values.{Values}
 use Rattle.pdo_links.specs.PdoWrites.{tpdo_of}
-use Rattle.pdo_plan.specs.declared.clean.Clean.{Clean}
+use Rattle.pdo_choices.specs.declared.clean.Clean.{Clean}
 use Rattle.pdo_plan.specs.declared.planned_message.PlannedMessage.{PlannedMessage}
 use Rattle.pdo_plan.specs.Plan.{clean_of}
 use Rattle.project_plan.specs.Wanted.{is_sent_by, sends, with_tpdo, with_tpdos}

@@ -28,10 +28,11 @@ use Rattle.node_parameters.proofs.JudgedLemmas.{judged_entry}
 use Rattle.node_parameters.proofs.ParameterLemmas.{kind_of_entry, nothing_else, writes_sized}
 use Rattle.pdo_stations.specs.Devices.{is_unsigned, takes_unsigned}
 use Rattle.pdo_stations.proofs.UnsignedLemmas.{unsigned_form}
-use Rattle.pdo_plan.specs.declared.clean.Clean.{Clean}
-use Rattle.pdo_plan.specs.declared.consumer.Consumer.{Consumer}
+use Rattle.pdo_choices.specs.declared.clean.Clean.{Clean}
+use Rattle.pdo_choices.specs.declared.consumer.Consumer.{Consumer}
 use Rattle.pdo_plan.specs.declared.planned_message.PlannedMessage.{PlannedMessage}
-use Rattle.pdo_plan.specs.Plan.{clean, IsMadeFor, IsNumbered, IsWithin}
+use Rattle.pdo_plan.specs.Plan.{clean, IsMadeFor}
+use Rattle.pdo_choices.specs.Limits.{IsNumbered, IsWithin}
 use Rattle.pdo_links.specs.Order.{IsOfSent, IsOfTaken}
 use Rattle.pdo_links.specs.Tables.{AreMapped}
 use Rattle.pdo_links.specs.PdoWrites.{rpdo_of, tpdo_of}

@@ -26,9 +26,10 @@ use Rattle.vendor_pdos.specs.Mappings.{Wanted, writes_mapping}
 use Rattle.vendor_pdos.specs.Parameters.{can_be_set, has_parameter, is_open, number_serves, parameter_default}
 use Rattle.vendor_pdos.specs.Parameters.{parameter_width}
 use Rattle.vendor_pdos.specs.Serving.{sends as serves}
-use Rattle.pdo_plan.specs.declared.clean.Clean.{Clean}
+use Rattle.pdo_choices.specs.declared.clean.Clean.{Clean}
 use Rattle.pdo_plan.specs.declared.outcome.Outcome.TheVariants.{Planned}
-use Rattle.pdo_plan.specs.Plan.{Withheld, clean, had_by, judged_message, plan_of}
+use Rattle.pdo_choices.specs.Had.{Withheld, had_by}
+use Rattle.pdo_plan.specs.Plan.{clean, judged_message, plan_of}
 use Rattle.pdo_plan.proofs.ChainLemmas.{all_clean, each_clean}
 use Rattle.pdo_plan.proofs.FreeLemmas.{faultless}
 use Rattle.pdo_plan.proofs.JudgedLemmas.{judged_clean}

@@ -23,11 +23,11 @@ use Rattle.pdo_stations.specs.declared.mapped.Mapped.{Mapped}
 use Rattle.pdo_stations.specs.Devices.{as_made}
 use Rattle.vendor_pdos.specs.Mappings.{writes_mapping}
 use Rattle.vendor_pdos.specs.Parameters.{can_be_set, is_open, parameter_default, parameter_width}
-use Rattle.pdo_plan.specs.declared.clean.Clean.{Clean}
-use Rattle.pdo_plan.specs.declared.consumer.Consumer.{Consumer}
+use Rattle.pdo_choices.specs.declared.clean.Clean.{Clean}
+use Rattle.pdo_choices.specs.declared.consumer.Consumer.{Consumer}
 use Rattle.pdo_plan.specs.declared.planned_message.PlannedMessage.{PlannedMessage}
 use Rattle.pdo_plan.specs.Plan.{clean}
-use Rattle.pdo_plan.proofs.LimitLemmas.{between}
+use Rattle.pdo_choices.proofs.RangeLemmas.{between}
 use Rattle.pdo_links.specs.Order.{IsSentAlone, IsTakenAlone}
 use Rattle.pdo_links.specs.PdoWrites.{cob_write, mapping_writes, rpdo_of, taken_type, tpdo_of, write_at}
 use Rattle.pdo_links.specs.VendorWrites.{allows, configured, each_by_number, parameter_write, pdo_writes, unused_writes}

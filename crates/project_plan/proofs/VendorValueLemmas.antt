@@ -16,10 +16,11 @@ use Rattle.node_parameters.specs.Parameters.{parameter_writes}
 use Rattle.eds_dcf.proofs.CarriedTextLemmas.{HasGood}
 use Rattle.pdo_stations.specs.declared.as_made.AsMade.{AsMade}
 use Rattle.pdo_stations.specs.Devices.{as_made}
-use Rattle.pdo_plan.specs.declared.clean.Clean.{Clean}
-use Rattle.pdo_plan.specs.declared.consumer.Consumer.{Consumer}
+use Rattle.pdo_choices.specs.declared.clean.Clean.{Clean}
+use Rattle.pdo_choices.specs.declared.consumer.Consumer.{Consumer}
 use Rattle.pdo_plan.specs.declared.planned_message.PlannedMessage.{PlannedMessage}
-use Rattle.pdo_plan.specs.Plan.{IsNumbered, IsWithin, clean}
+use Rattle.pdo_choices.specs.Limits.{IsNumbered, IsWithin}
+use Rattle.pdo_plan.specs.Plan.{clean}
 use Rattle.pdo_links.specs.PdoWrites.{rpdo_of, tpdo_of}
 use Rattle.pdo_links.specs.Tables.{AreMapped}
 use Rattle.pdo_links.specs.VendorWrites.{each_by_number, unused_writes, vendor_link_writes, vendor_rpdo_writes}

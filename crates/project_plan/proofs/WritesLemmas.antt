@@ -9,8 +9,8 @@ use Rattle.project_edits.specs.Versions.{is_three}
 use Rattle.project_messages.specs.Messages.{is_of_messages}
 use Rattle.node_parameters.specs.Parameters.{parameter_writes}
 use Rattle.co_project.specs.Project.{Content}
-use Rattle.pdo_plan.specs.declared.clean.Clean.{Clean}
-use Rattle.pdo_plan.specs.declared.consumer.Consumer.{Consumer}
+use Rattle.pdo_choices.specs.declared.clean.Clean.{Clean}
+use Rattle.pdo_choices.specs.declared.consumer.Consumer.{Consumer}
 use Rattle.pdo_plan.specs.Plan.{clean}
 use Rattle.pdo_links.specs.Order.{IsConfigured, IsConfiguredAsMade, IsOfSent as SetSent, IsOfTaken as SetTaken, IsSentAlone, IsTakenAlone}
 use Rattle.pdo_links.specs.VendorWrites.{vendor_rpdo_writes, vendor_tpdo_writes}

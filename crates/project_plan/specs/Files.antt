@@ -17,8 +17,8 @@ dcf_text project id m = text_of (dcf_sections m.sections id m.node.name project.
 
 -- the value that a text gives an entry that may be written: its ParameterValue, or what `[xxxxValue]` lists for it,
 -- read as its type at the node
-unfoldable pub value_given : List Section → ℕ → ℕ × ℕ → Option (List ℕ)
-value_given ss node place =
+unfoldable pub value_in_file : List Section → ℕ → ℕ × ℕ → Option (List ℕ)
+value_in_file ss node place =
     option_and_then (λ (e : Entry). if is_writable e.access
     then option_and_then (λ text. value e.kind text node) (value_text ss place.0 place.1) else None)
     (entry_at ss node place.0 place.1)

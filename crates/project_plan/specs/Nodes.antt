@@ -2,8 +2,8 @@
 use Rattle.std.specs.Prelude.{◌≡◌, ℕ, Contains, Some}
 use Rattle.co_project.specs.Project.{Content}
 use Rattle.co_project.specs.Sound.{IsSound}
-use Rattle.pdo_plan.specs.declared.clean.Clean.{Clean}
-use Rattle.pdo_plan.specs.declared.consumer.Consumer.{Consumer}
+use Rattle.pdo_choices.specs.declared.clean.Clean.{Clean}
+use Rattle.pdo_choices.specs.declared.consumer.Consumer.{Consumer}
 use Rattle.pdo_plan.specs.Plan.{clean}
 use Rattle.project_plan.specs.Network.{member_at, plan_of_project, Member}
 

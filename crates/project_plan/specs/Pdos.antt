@@ -4,8 +4,8 @@ use Rattle.concise_dcf.specs.declared.write.Write.{Write}
 use Rattle.cia301.specs.PdoObjects.{mapping_object, tpdo_object}
 use Rattle.project_edits.specs.Versions.{is_three}
 use Rattle.co_project.specs.Project.{Content}
-use Rattle.pdo_plan.specs.declared.clean.Clean.{Clean}
-use Rattle.pdo_plan.specs.declared.consumer.Consumer.{Consumer}
+use Rattle.pdo_choices.specs.declared.clean.Clean.{Clean}
+use Rattle.pdo_choices.specs.declared.consumer.Consumer.{Consumer}
 use Rattle.pdo_stations.specs.Devices.{as_made}
 use Rattle.pdo_plan.specs.Plan.{clean}
 use Rattle.vendor_pdos.specs.Parameters.{parameter_default}

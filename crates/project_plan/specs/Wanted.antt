@@ -16,7 +16,7 @@ use Rattle.node_parameters.specs.Params.{Texts}
 use Rattle.eds_device.specs.Entries.{default_at, entry_at, given_at}
 use Rattle.eds_device.specs.Places.{pairs_of}
 use Rattle.cia301.specs.PdoObjects.{is_communication_object, is_of_tpdos, tpdo_object}
-use Rattle.pdo_plan.specs.declared.clean.Clean.{Clean}
+use Rattle.pdo_choices.specs.declared.clean.Clean.{Clean}
 use Rattle.pdo_plan.specs.declared.planned_message.PlannedMessage.{PlannedMessage}
 use Rattle.pdo_plan.specs.Plan.{clean_of}
 use Rattle.concise_dcf.specs.Writes.{place_of}

@@ -13,7 +13,7 @@ ghost use Rattle.node_parameters.specs.Parameters.{parameter_writes};
 ghost use Rattle.eds_dcf.specs.Writes.{last_of};
 ghost use Rattle.co_project.specs.Project.{Content};
 ghost use Rattle.project_plan.specs.Network.{writes_of, Member};
-ghost use Rattle.project_plan.specs.Files.{dcf_text, value_given};
+ghost use Rattle.project_plan.specs.Files.{dcf_text, value_in_file};
 ghost use Rattle.project_plan.specs.Nodes.{IsSoundNode};
 
 /// The values that a DCF gives are exactly those that the writes of its node leave, of its parameters
@@ -21,7 +21,8 @@ ghost use Rattle.project_plan.specs.Nodes.{IsSoundNode};
 /// has one.
 pub fn a_dcf_gives_what_its_node_is_written()
     ensures { (project : Content) (id : ℕ) (m : Member) (place : ℕ × ℕ) → IsSoundNode project id m
-        → value_given (content_of (dcf_text project id m)).sections id place ≡ last_of (writes_of project m id) place }
+        → value_in_file (content_of (dcf_text project id m)).sections id place
+        ≡ last_of (writes_of project m id) place }
 {}
 
 /// Read as the device of a node that sets nothing itself, a DCF gives the parameters of its node.

@@ -1,6 +1,6 @@
 -- What is read behind the first word of each command.
-use Rattle.std.proofs.Common.{◌≡◌, ℕ, ◌^◌, ◌<◌, ◌≤◌, Bool, true, false, List, [], ◌∷◌, refl, lit<, arith}
-use Rattle.std.specs.Prelude.{nat_le, if◌then◌else◌, Ok, Option, Some, None, IfSome, decimal, codes, ◌==◌}
+use Rattle.std.proofs.Common.{◌≡◌, ℕ, ◌^◌, ◌<◌, ◌≤◌, Bool, true, false, List, [], ◌∷◌, refl, ap, lit<, arith}
+use Rattle.std.specs.Prelude.{nat_le, if◌then◌else◌, Result, Ok, Option, Some, None, IfSome, decimal, codes, ◌==◌}
 use Rattle.std.proofs.lemmas.Bool.{and_parts, leb-true, le-ltb}
 use Rattle.std.proofs.lemmas.Bool.Decides.{nat_tests}
 use Rattle.co_scenario.specs.declared.event.Event.TheVariants as event
@@ -10,7 +10,9 @@ use Rattle.co_scenario.specs.declared.nmt_command.NmtCommand.TheVariants.{ResetC
 use Rattle.co_scenario.specs.Commands.{number_of}
 use Rattle.project_edits.specs.declared.manager_settings.ManagerSettings.{ManagerSettings}
 use Rattle.project_edits.specs.declared.time_stamps.TimeStamps.{TimeStamps}
-use Rattle.project_edits.specs.Stamps.{first_day_of, period_of}
+use Rattle.project_edits.specs.Stamps.{first_day_of, period_of, stamps_of}
+use Rattle.project_edits.specs.declared.edit.Edit.{Edit}
+use Rattle.project_edits.specs.declared.fault.EditFault.{EditFault}
 use Rattle.project_edits.specs.declared.edit.Edit.TheVariants as edit
 use Rattle.script_commands.specs.declared.request.Request.TheVariants.{Block}
 use Rattle.base.specs.Words.{after}
@@ -137,6 +139,13 @@ some_period n fits =
     let least = leb-true 1000 n (and_parts (nat_le 1000 n) (nat_le n 10000000) fits).0 in
     grind (arith, nat_tests)
 
+-- time stamps are those of their period and their first day
+stamps_again : (t : TimeStamps) → is_between 1000 10000000 t.period_us ≡ true
+    → stamps_of t.period_us t.first_day ≡ Some t
+stamps_again t fits =
+    ap (λ (none : Bool). (let no : Option TimeStamps = None in if none then no else Some t))
+    (some_period t.period_us fits)
+
 pub time_period_is : (line : List ℕ) (stamps : Option TimeStamps)
     → Has Ends line (decimal (period_of stamps) ∷ decimal (first_day_of stamps) ∷ []) → IfSome stamps AreTimeStamps
     → time_period_of line ≡ Ok (edit.TimeStamps stamps)
@@ -149,7 +158,8 @@ time_period_is line (Some t) h is =
       h.1.0,
       decimal_again t.period_us (stamps_below (Some t) is),
       decimal_again t.first_day (day_below (Some t) is),
-    ) (rw (some_period t.period_us is.0, is.0, is.1) refl)
+    ) (rw (some_period t.period_us is.0, is.0, is.1)
+    (let gives : Option TimeStamps → Result Edit EditFault = λ s. Ok (edit.TimeStamps s) in ap gives (stamps_again t is.0)))
 
 pub sync_counter_is : (line : List ℕ) (n : ℕ) → Has Ends line (decimal n ∷ []) → is_sync_counter n ≡ true
     → sync_counter_of line ≡ Ok (edit.SyncCounter n)

@@ -8,7 +8,7 @@ ghost use Rattle.network_image.specs.Network.{image_held};
 ghost use Rattle.workbench.specs.Queries.{trace_of};
 ghost use Rattle.kept_values.specs.Work.{Rises};
 
-use co_depend::ProjectParts;
+use co_depend::RecordingParts;
 use co_project::Project;
 use co_segments::Store;
 use kept_values::Meter;
@@ -37,7 +37,7 @@ pub(crate) fn traced(
 {
     project.keeps_to_rules();
     let horizon = project.horizon();
-    let mut parts = ProjectParts::of(alloc, network);
+    let mut parts = RecordingParts::of(alloc, network);
     let told = store.trace_text(&mut parts, horizon, meter)?;
     Ok(told)
 }

@@ -13,7 +13,7 @@ syntax keyword cobenchWord set power nmt on off mandatory optional
 syntax match cobenchWrong /\v^\s*[^# \t<\[;=]+/
 syntax match cobenchSection /^\[.*\]\s*$/
 syntax match cobenchKey /\v^[A-Za-z0-9]+\s*\ze\=/
-syntax match cobenchCommand /\v^\s*%(version|bitrate|horizon|manager|sync-counter|eds|drop-eds|node|need|drop-node|param|unparam|message|start|drop-message|source|unsource|sink|unsink|receive|unreceive|event|drop-event|dcf|cdcf|diag|trace|project)>/
+syntax match cobenchCommand /\v^\s*%(version|bitrate|horizon|manager|time-period|sync-counter|eds|drop-eds|node|need|drop-node|param|unparam|message|start|drop-message|source|unsource|sink|unsink|receive|unreceive|event|drop-event|dcf|cdcf|diag|trace|project)>/
 " The text of a parameter, and that of an event that sets an entry.
 syntax match cobenchParam /\v(^\s*param\s+\S+\s+\S+\s+\S+\s+)@<=\S.*$/
 syntax match cobenchSet /\v(^\s*event\s+\S+\s+\S+\s+set\s+\S+\s+\S+\s+\S+\s+)@<=\S.*$/

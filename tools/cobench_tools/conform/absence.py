@@ -5,6 +5,7 @@
 | heartbeat of a node | after one and a half of its periods | the end of the start, or what made it begin anew |
 | heartbeat of the manager | after one and a half of its periods | the same |
 | SYNC | after two periods | the end of the start |
+| TIME | after two periods | the end of the start |
 | PDO of type n | at the n-th SYNC | the start command, the first heartbeat 05h, or the end of the start |
 | PDO with an event time | after its event time | the same |
 | boot-up message, where the log has the start | by the end of the start | power-on |
@@ -113,6 +114,17 @@ class AwaitedSync(Awaited):
                                       f"SYNC: there is none; the period is {milliseconds(self.stream.period)}", spot, notes, is_first=True)
 
 
+class AwaitedTime(Awaited):
+    """TIME."""
+
+    def __init__(self, judge):
+        super().__init__(judge, judge.manager, judge.time_stamp, "TIME", judge.time_stamp.high)
+
+    def tell(self, spot):
+        self.judge.causes.tell_absent("time-missing", ["100"], ("time-period",),
+                                      f"TIME: there is none; the period is {milliseconds(self.stream.period)}", spot)
+
+
 class AwaitedPdo(Awaited):
     """A PDO that comes by itself once its node is operational, here by its event time."""
 
@@ -202,6 +214,7 @@ class Absences:
             return
         if judge.sync.period and judge.sync.last is None:
             self._judge(AwaitedSync(judge))
+        self._judge_all([AwaitedTime(judge)] if judge.time_stamp.comes_by_itself() else [])
         self._judge_all([AwaitedHeartbeat(judge, judge.manager, judge.plan.manager_heartbeat)] if judge.plan.manager_heartbeat else [])
         for node in judge.nodes.values():
             awaited = self.awaited_of(node)

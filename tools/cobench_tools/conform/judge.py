@@ -16,6 +16,7 @@ from .startup import Places, Startup
 from .strays import Strays
 from .sync import Sync
 from .synced_pdo import follower
+from .time_stamp import TimeStamp
 from .unfinished import Unfinished
 
 RESTRICTED = [is_restricted(identifier) for identifier in range(0x800)]
@@ -56,7 +57,7 @@ class Judge:
         self.begin = self.end = self.opening = None
         self.last_line, self.active_since, self.is_power_on = 0, None, None
         self.bus = Bus(plan.bit if self.is_of_plan else plan.bus_bit, tolerance, has_stuff_bits(plan.project))
-        self.sync = Sync(self)
+        self.sync, self.time_stamp = Sync(self), TimeStamp(self)
         self.startup, self.places = Startup(plan), Places()
         self.nodes = {number: Node(self, planned) for number, planned in sorted(plan.nodes.items())}
         self.manager, self.strays = Manager(self), Strays(self)
@@ -70,6 +71,8 @@ class Judge:
         handlers = self.handlers
         handlers[keys.COMMAND], handlers[keys.SYNC] = self.command, self.sync.take
         handlers[keys.heartbeat(self.plan.manager)] = self.manager.heartbeat.take
+        if self.plan.project.time:
+            handlers[keys.TIME] = self.time_stamp.take
         for number, node in self.nodes.items():
             handlers[keys.heartbeat(number)] = node.heartbeat.take
             handlers[keys.emergency(number)] = self._emergency_of(node)
@@ -109,6 +112,7 @@ class Judge:
         """What was recorded before a time says nothing of what comes: something is left out, or the clock jumped."""
         self.causes.jump()
         self.sync.pause(time)
+        self.time_stamp.forget(time)
         self.manager.heartbeat.forget(time)
         for node in self.nodes.values():
             node.pause(time)
@@ -141,6 +145,7 @@ class Judge:
     def tolerate(self):
         """Times may be off by more than before: what each follower allows is worked out anew."""
         self.sync.tolerate()
+        self.time_stamp.tolerate()
         self.manager.heartbeat.set_period(self.manager.heartbeat.period)
         for node in self.nodes.values():
             for stream in node.streams:
@@ -149,6 +154,7 @@ class Judge:
     def finish(self):
         """The log is over."""
         self.sync.finish(self.end)
+        self.time_stamp.finish(self.end)
         for node in self.nodes.values():
             node.finish(self.end)
         self.manager.heartbeat.finish(self.end)

@@ -1,7 +1,7 @@
-"""The keys of what CANopen lays down (CiA 301): of commands, of SYNC, and of what each node sends and takes."""
+"""The keys of what CANopen lays down (CiA 301): of commands, of SYNC, of TIME, and of what each node sends and takes."""
 from ..logs.rows import key_of
 
-COMMAND, SYNC = "000#", "080#"
+COMMAND, SYNC, TIME = "000#", "080#", "100#"
 HEARTBEATS, EMERGENCIES, ANSWERS, REQUESTS = 0x700, 0x080, 0x580, 0x600
 
 # The digits of a boot-up message.

@@ -9,8 +9,8 @@ import functools
 from .. import script
 
 # How many words behind the first one say what a command sets.
-KEY_WORDS = {b"version": 0, b"bitrate": 0, b"horizon": 0, b"manager": 0, b"sync-counter": 0, b"eds": 1, b"node": 1,
-             b"need": 1, b"param": 3, b"message": 1, b"start": 1, b"source": 2, b"sink": 3, b"receive": 2, b"event": 1}
+KEY_WORDS = {b"version": 0, b"bitrate": 0, b"horizon": 0, b"manager": 0, b"time-period": 0, b"sync-counter": 0, b"eds": 1,
+             b"node": 1, b"need": 1, b"param": 3, b"message": 1, b"start": 1, b"source": 2, b"sink": 3, b"receive": 2, b"event": 1}
 OF_A_MESSAGE = (b"start", b"source", b"sink", b"receive")
 
 # Edits by which no file of a node can become another, and those of the files of one node, which they name (docs/rules/commands.md).
@@ -161,10 +161,11 @@ class Way:
     # Settings, data sheets and nodes.
 
     def settings(self):
-        for name, first in ((b"version", b"version 1\n"), (b"sync-counter", b"sync-counter 0\n")):
+        for name, first in ((b"time-period", b"time-period 0 0\n"), (b"version", b"version 1\n"),
+                            (b"sync-counter", b"sync-counter 0\n")):
             if (name,) in self.gone(name):
                 self.drop((name,), first)
-        for key in self.wanted(b"version", b"bitrate", b"horizon", b"sync-counter", b"manager"):
+        for key in self.wanted(b"version", b"bitrate", b"horizon", b"time-period", b"sync-counter", b"manager"):
             self.set(key)
 
     def used_sheets(self):

@@ -13,6 +13,9 @@ MEANINGS = {
         "the manager's number 1 to 127; the time between two SYNC messages, 0 for none or 1,000 to 10,000,000 "
         "microseconds; its heartbeat's producer time, 0 for none, to 65,535 ms; the longest wait for an SDO answer, 1 "
         "to 65,535 ms"),
+    "time-period": (
+        "in version 3: the manager sends TIME (CiA 301, the time stamp) each US microseconds, 1,000 to 10,000,000; the run "
+        "begins at midnight of the day DAYS, 0 to 65,535. US 0 is none, and DAYS isn't kept then"),
     "sync-counter": (
         "the SYNC messages are counted 1 to N (CiA 301, synchronous counter overflow value): 2 to 240; 0 for SYNC "
         "messages without a counter"),

@@ -13,8 +13,8 @@ pub loop-place-preserved : goal.loop-place-preserved
 loop-place-preserved c = λ ds long h.
     let i = c.loop-place.place in
     let d = without_power false 0 in
-    best_more c.loop-place.best _ c.keep_lower.new.best ds i d (omega (arith, long)) (c.loop-place.invariant ds long h)
-    (outlook_at IsBestOf c.args.each.now ds i _ d (omega (arith, long)) h) c.keep_lower.ensures
+    best_more c.loop-place.best _ c.keep_winner.new.best ds i d (omega (arith, long)) (c.loop-place.invariant ds long h)
+    (outlook_at IsBestOf c.args.each.now ds i _ d (omega (arith, long)) h) c.keep_winner.ensures
 
 pub returns : goal.returns
 returns c = λ ds long h.

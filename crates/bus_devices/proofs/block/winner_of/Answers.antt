@@ -6,5 +6,5 @@ pub loop-device-preserved : goal.loop-device-preserved
 loop-device-preserved c =
     let item = c.device-item in
     winner_more (λ (d : Device). (d.number, d.waiting)) c.args.devices.now c.loop-device.device-index item.result
-    c.loop-device.best c.contender.result c.keep_lower.new.best c.loop-device-test.true c.loop-device.invariant
-    (rw item.is at c.contender.ensures) c.keep_lower.ensures
+    c.loop-device.best c.contender.result c.keep_winner.new.best c.loop-device-test.true c.loop-device.invariant
+    (rw item.is at c.contender.ensures) c.keep_winner.ensures

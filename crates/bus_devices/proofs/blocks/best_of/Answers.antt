@@ -14,7 +14,7 @@ returns c = λ ds known.
 
 pub loop-block-preserved : goal.loop-block-preserved
 loop-block-preserved c = λ ds known.
-    one_block_known IsBestOf (IsBest c.loop-block.best) (IsBest c.keep_lower.new.best) _ c.args.blocks.now
+    one_block_known IsBestOf (IsBest c.loop-block.best) (IsBest c.keep_winner.new.best) _ c.args.blocks.now
     c.loop-block.block-index ds c.loop-block-test.true
     (λ before others won block. best_of_both before others c.loop-block.best _
-    c.keep_lower.new.best won block c.keep_lower.ensures) (c.loop-block.invariant ds known)
+    c.keep_winner.new.best won block c.keep_winner.ensures) (c.loop-block.invariant ds known)

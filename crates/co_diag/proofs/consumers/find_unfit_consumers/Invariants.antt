@@ -1,6 +1,6 @@
 use Rattle.std.proofs.Common.{◌≡◌, ◌++◌, filter_map, take}
 use Rattle.co_diag.specs.Found.{consumer_diagnostic}
-use Rattle.co_diag.specs.Kept.{time_among}
+use Rattle.diag_nodes.specs.Kept.{time_among}
 use Rattle.co_diag.specs.Rules.{time_by}
 use Rattle.co_diag.proofs.consumers.find_unfit_consumers.Given as goal
 

@@ -1,7 +1,7 @@
 use Rattle.std.proofs.Common.{◌≡◌, ◌++◌, map, take}
 use Rattle.diag_lines.specs.declared.subject.Subject.TheVariants as of
 use Rattle.co_diag.specs.Faults.{message_code}
-use Rattle.co_diag.specs.Found.{diagnostic}
+use Rattle.diag_nodes.specs.Found.{diagnostic}
 use Rattle.co_diag.proofs.messages.find_faults.Given as goal
 
 abbrev pub invariant-loop-fault : goal.invariant-loop-fault

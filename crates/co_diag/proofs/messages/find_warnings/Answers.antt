@@ -3,7 +3,7 @@ use Rattle.project_messages.specs.Messages.{by_name}
 use Rattle.project_messages.specs.declared.linked.Linked.{Linked}
 use Rattle.co_diag.specs.Found.{message_warnings}
 use Rattle.co_diag.proofs.MessageFound.{said_in_turn}
-use Rattle.co_diag.proofs.WalkLemmas.{walk_ends, walk_on}
+use Rattle.diag_nodes.proofs.WalkLemmas.{walk_ends, walk_on}
 use Rattle.co_diag.proofs.messages.find_warnings.Goals as goal
 
 pub loop-name-preserved : goal.loop-name-preserved

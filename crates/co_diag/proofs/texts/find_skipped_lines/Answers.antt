@@ -8,8 +8,9 @@ use Rattle.co_project.specs.Sound.{IsSound}
 use Rattle.co_project.specs.Tables.{text_at}
 use Rattle.project_messages.specs.Messages.{by_name}
 use Rattle.diag_lines.specs.declared.diag.Diag.{Diag}
-use Rattle.co_diag.specs.Devices.{lines_at}
-use Rattle.co_diag.proofs.WalkLemmas.{all_lines, texts_of_devices, texts_there, walk_ends, walk_on}
+use Rattle.co_diag.specs.Lines.{lines_at}
+use Rattle.co_diag.proofs.WalkLemmas.{all_lines, texts_of_devices, texts_there}
+use Rattle.diag_nodes.proofs.WalkLemmas.{walk_ends, walk_on}
 use Rattle.co_diag.proofs.texts.find_skipped_lines.Goals as goal
 
 pub loop-name-preserved : goal.loop-name-preserved

@@ -5,7 +5,7 @@ use Rattle.ini_text.specs.Content.{content_of}
 use Rattle.eds_device.specs.Faults.{device_of}
 use Rattle.co_project.specs.Tables.{text_at}
 use Rattle.project_messages.specs.Messages.{by_name}
-use Rattle.co_diag.specs.Devices.{lines_at}
+use Rattle.co_diag.specs.Lines.{lines_at}
 use Rattle.co_diag.proofs.texts.find_skipped_lines.Given as goal
 
 -- each text that is left is that of its name and of a device, and with the lines of those they are all

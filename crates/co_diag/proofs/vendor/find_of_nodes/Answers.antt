@@ -5,9 +5,9 @@ use Rattle.std.proofs.lemmas.List.Elements.{All-head, All-tail}
 use Rattle.project_plan.specs.Library.{IsRead}
 use Rattle.co_project.specs.declared.node.Node.{Node}
 use Rattle.diag_lines.specs.declared.diag.Diag.{Diag}
-use Rattle.co_diag.specs.Devices.{AreAllRead, of_node}
+use Rattle.diag_nodes.specs.Devices.{AreAllRead, of_node}
 use Rattle.co_diag.specs.Found.{node_findings}
-use Rattle.co_diag.proofs.WalkLemmas.{all_members, walk_ends, walk_on}
+use Rattle.diag_nodes.proofs.WalkLemmas.{all_members, walk_ends, walk_on}
 use Rattle.co_diag.proofs.vendor.find_of_nodes.Goals as goal
 
 pub loop-id-init : goal.loop-id-init

@@ -2,7 +2,7 @@ use Rattle.std.proofs.Common.{◌≡◌, ◌++◌}
 use Rattle.std.specs.FinMap.{entries}
 use Rattle.std.specs.List.{All, flat_map}
 use Rattle.project_plan.specs.Library.{IsRead}
-use Rattle.co_diag.specs.Devices.{of_node}
+use Rattle.diag_nodes.specs.Devices.{of_node}
 use Rattle.co_diag.specs.Found.{node_findings}
 use Rattle.co_diag.proofs.vendor.find_of_nodes.Given as goal
 

@@ -3,7 +3,8 @@ use Rattle.diag_lines.specs.declared.code.Code.TheVariants.{BesideLimits, Unplan
 use Rattle.diag_lines.specs.declared.diag.Diag.{Diag}
 use Rattle.diag_lines.specs.declared.subject.Subject.TheVariants as of
 use Rattle.pdo_findings.specs.Findings.{refused_places}
-use Rattle.co_diag.specs.Found.{diagnostic, pdo_findings}
+use Rattle.diag_nodes.specs.Found.{diagnostic}
+use Rattle.co_diag.specs.Found.{pdo_findings}
 use Rattle.co_diag.proofs.WalkLemmas.{three_found}
 use Rattle.co_diag.proofs.vendor.find_of_pdos.Goals as goal
 

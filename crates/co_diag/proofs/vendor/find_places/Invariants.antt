@@ -1,7 +1,7 @@
 use Rattle.std.proofs.Common.{◌≡◌, ◌++◌, ℕ, map, take}
 use Rattle.diag_lines.specs.declared.code.Code.TheVariants.{BesideLimits}
 use Rattle.diag_lines.specs.declared.subject.Subject.TheVariants as of
-use Rattle.co_diag.specs.Found.{diagnostic}
+use Rattle.diag_nodes.specs.Found.{diagnostic}
 use Rattle.co_diag.proofs.vendor.find_places.Given as goal
 
 abbrev pub invariant-loop-place : goal.invariant-loop-place

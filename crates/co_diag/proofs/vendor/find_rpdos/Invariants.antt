@@ -1,7 +1,7 @@
 use Rattle.std.proofs.Common.{◌≡◌, ◌++◌, map, take}
 use Rattle.diag_lines.specs.declared.code.Code.TheVariants.{UnplannedRpdo}
 use Rattle.diag_lines.specs.declared.subject.Subject.TheVariants as of
-use Rattle.co_diag.specs.Found.{diagnostic}
+use Rattle.diag_nodes.specs.Found.{diagnostic}
 use Rattle.co_diag.proofs.vendor.find_rpdos.Given as goal
 
 abbrev pub invariant-loop-number : goal.invariant-loop-number

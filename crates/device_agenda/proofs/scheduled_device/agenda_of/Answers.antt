@@ -3,13 +3,13 @@ use Rattle.device_agenda.proofs.AgendaLemmas.{plan_of, silent_where_none}
 use Rattle.device_agenda.proofs.ReachLemmas.{first_out}
 use Rattle.device_agenda.specs.Groups.{includes}
 use Rattle.device_agenda.specs.LowBytes.{has_low_byte_of}
-use Rattle.device_agenda.specs.declared.agenda.Agenda.{Agenda as Plan}
+use Rattle.device_agenda.specs.declared.agenda.Agenda.{Agenda as DeviceAgenda}
 use Rattle.device_agenda.proofs.scheduled_device.agenda_of.Goals as goal
 
 pub returns : goal.returns
 returns c =
     let d = c.args.device.now in
-    let plan : Plan = record {
+    let plan : DeviceAgenda = record {
       awake = false;
       due = c.next_due.result;
       groups = c.args.reach.now.groups;

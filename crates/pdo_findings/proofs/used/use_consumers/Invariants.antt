@@ -2,7 +2,7 @@ use Rattle.std.proofs.Common.{◌≡◌, ℕ, ◌||◌, take}
 use Rattle.std.specs.BTreeSet.{contains}
 use Rattle.std.specs.List.{list_any}
 use Rattle.std.specs.Ordering.{nat_cmp}
-use Rattle.pdo_plan.specs.Plan.{is_at_node}
+use Rattle.pdo_choices.specs.Had.{is_at_node}
 use Rattle.pdo_findings.proofs.used.use_consumers.Given as goal
 
 -- those of the consumers so far

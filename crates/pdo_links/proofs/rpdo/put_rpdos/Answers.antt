@@ -6,9 +6,10 @@ use Rattle.std.specs.Ordering.{nat_cmp}
 use Rattle.std.proofs.lemmas.List.Elements.{All-contains, All-head, All-tail, All-weaker}
 use Rattle.base.specs.Ranges.{is_between}
 use Rattle.concise_dcf.specs.declared.write.Write.{Write}
-use Rattle.pdo_plan.specs.declared.clean.Clean.{Clean}
-use Rattle.pdo_plan.specs.declared.consumer.Consumer.{Consumer}
-use Rattle.pdo_plan.specs.Plan.{clean, IsNumbered, IsWithin}
+use Rattle.pdo_choices.specs.declared.clean.Clean.{Clean}
+use Rattle.pdo_choices.specs.declared.consumer.Consumer.{Consumer}
+use Rattle.pdo_plan.specs.Plan.{clean}
+use Rattle.pdo_choices.specs.Limits.{IsNumbered, IsWithin}
 use Rattle.pdo_links.specs.declared.taken.Taken.{Taken}
 use Rattle.pdo_links.specs.Tables.{AreValues, IsTableOf}
 use Rattle.pdo_links.specs.PdoWrites.{rpdo_of}

@@ -6,8 +6,9 @@ use Rattle.std.specs.Ordering.{nat_cmp}
 use Rattle.std.proofs.lemmas.List.Elements.{All-contains, All-head, All-tail, All-weaker}
 use Rattle.base.specs.Ranges.{is_between}
 use Rattle.concise_dcf.specs.declared.write.Write.{Write}
-use Rattle.pdo_plan.specs.declared.clean.Clean.{Clean}
-use Rattle.pdo_plan.specs.Plan.{clean, IsWithin}
+use Rattle.pdo_choices.specs.declared.clean.Clean.{Clean}
+use Rattle.pdo_plan.specs.Plan.{clean}
+use Rattle.pdo_choices.specs.Limits.{IsWithin}
 use Rattle.pdo_links.specs.Tables.{AreValues, IsTableOf}
 use Rattle.pdo_links.specs.PdoWrites.{tpdo_of}
 use Rattle.pdo_links.specs.Writes.{tpdo_writes, by_number}

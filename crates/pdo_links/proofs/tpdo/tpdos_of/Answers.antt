@@ -1,5 +1,5 @@
 use Rattle.std.proofs.Common.{Bor}
-use Rattle.pdo_plan.specs.declared.clean.Clean.{Clean}
+use Rattle.pdo_choices.specs.declared.clean.Clean.{Clean}
 use Rattle.pdo_links.specs.PdoWrites.{tpdo_of}
 use Rattle.pdo_links.proofs.Tabled.{none_tabled, skipped, noted}
 use Rattle.pdo_links.proofs.tpdo.tpdos_of.Goals as goal

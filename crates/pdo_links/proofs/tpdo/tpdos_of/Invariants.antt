@@ -1,6 +1,6 @@
 use Rattle.std.proofs.Common.{take, Bor}
 use Rattle.std.specs.Prelude.{filter_map}
-use Rattle.pdo_plan.specs.declared.clean.Clean.{Clean}
+use Rattle.pdo_choices.specs.declared.clean.Clean.{Clean}
 use Rattle.pdo_plan.specs.Plan.{clean}
 use Rattle.pdo_links.specs.Tables.{IsTableOf}
 use Rattle.pdo_links.specs.PdoWrites.{tpdo_of}

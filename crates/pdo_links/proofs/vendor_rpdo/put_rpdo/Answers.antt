@@ -2,8 +2,8 @@ use Rattle.std.proofs.Common.{◌++◌, ℕ, [], List, arith}
 use Rattle.std.specs.Prelude.{◌==◌, if◌then◌else◌}
 use Rattle.cia301.specs.PdoObjects.{rpdo_object}
 use Rattle.concise_dcf.specs.declared.write.Write.{Write}
-use Rattle.pdo_plan.specs.declared.clean.Clean.{Clean}
-use Rattle.pdo_plan.specs.declared.consumer.Consumer.{Consumer}
+use Rattle.pdo_choices.specs.declared.clean.Clean.{Clean}
+use Rattle.pdo_choices.specs.declared.consumer.Consumer.{Consumer}
 use Rattle.pdo_links.specs.PdoWrites.{taken_type}
 use Rattle.pdo_links.specs.VendorWrites.{parameter_write, vendor_rpdo_writes}
 use Rattle.pdo_links.proofs.VendorJoined.{joined}

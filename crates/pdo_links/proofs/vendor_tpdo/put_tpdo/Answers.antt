@@ -2,7 +2,7 @@ use Rattle.std.proofs.Common.{◌++◌, ◌+◌, ℕ, List, arith}
 use Rattle.cia301.specs.CobIds.{no_rtr_bit}
 use Rattle.cia301.specs.PdoObjects.{tpdo_object}
 use Rattle.concise_dcf.specs.declared.write.Write.{Write}
-use Rattle.pdo_plan.specs.declared.clean.Clean.{Clean}
+use Rattle.pdo_choices.specs.declared.clean.Clean.{Clean}
 use Rattle.pdo_links.specs.VendorWrites.{parameter_write, vendor_tpdo_writes}
 use Rattle.pdo_links.proofs.VendorJoined.{joined}
 use Rattle.pdo_links.proofs.VendorValues.{opened, tpdo_values}

@@ -1,4 +1,4 @@
-use Rattle.std.proofs.Common.{◌≡◌, ℕ, Bor, List, ◌++◌, Option, sym, subst, ap, ◌∙◌, arith}
+use Rattle.std.proofs.Common.{◌≡◌, ℕ, Bor, List, ◌++◌, Option, refl, sym, subst, ap, ◌∙◌, arith}
 use Rattle.std.specs.Prelude.{filter_map}
 use Rattle.std.specs.BTreeMap.{is_at}
 use Rattle.std.specs.Map.{lookup}
@@ -7,12 +7,14 @@ use Rattle.std.specs.Ordering.{nat_cmp}
 use Rattle.std.proofs.lemmas.List.Elements.{All-contains}
 use Rattle.cia301.specs.PdoObjects.{tpdo_object}
 use Rattle.concise_dcf.specs.declared.write.Write.{Write}
-use Rattle.pdo_plan.specs.declared.clean.Clean.{Clean}
-use Rattle.pdo_plan.specs.Plan.{clean, IsWithin}
+use Rattle.pdo_choices.specs.declared.clean.Clean.{Clean}
+use Rattle.pdo_plan.specs.Plan.{clean}
+use Rattle.pdo_choices.specs.Limits.{IsWithin}
 use Rattle.pdo_links.specs.PdoWrites.{tpdo_of}
 use Rattle.pdo_links.specs.Tables.{AreValues, IsTableOf}
 use Rattle.pdo_links.specs.VendorWrites.{unused_writes, vendor_tpdo_writes}
-use Rattle.pdo_links.proofs.EachNumber.{all_numbers, continued, continued_values, started, started_values}
+use Rattle.pdo_links.proofs.EachNumber.{all_numbers, at_each, continued_values, started_values}
+use Rattle.pdo_links.proofs.NumberLemmas.{begun, ended, walked}
 use Rattle.pdo_links.proofs.Numbered.{sends}
 use Rattle.pdo_links.proofs.Tabled.{tabled}
 use Rattle.pdo_links.proofs.Used.{sent_within}
@@ -25,7 +27,7 @@ numbers-init c =
     let none : ℕ → List Write = λ number. unused_writes c.args.device.now (tpdo_object number) in
     let pdos : List (ℕ × Clean) = filter_map (tpdo_of c.args.node) (clean c.args.plan.now) in
     record {
-      written = started f none pdos c.args.writes.now.items;
+      written = begun (at_each f none pdos) c.args.writes.now.items c.args.writes.now.items refl;
       fits = λ n is ss node same. started_values f none pdos ss n is;
     }
 
@@ -51,9 +53,10 @@ numbers-preserved c =
     ap (λ (o : Option Clean). option_map_or f o (none number))
     (ap option_copied c.used_at.ensures ∙ tabled shows c.in_ok-tpdos.tpdos.entries pdos number table) in
     record {
-      written = λ n is. continued f none pdos c.args.writes.now.items c.numbers.writes.items
-          c.put_numbered.new.writes.items part n number is (omega arith) c.numbers.invariant.written
-          c.in_ok-put_numbered.ensures.writes here;
+      written = walked (at_each f none pdos) c.args.writes.now.items c.numbers.writes.items
+          c.put_numbered.new.writes.items number
+          (c.in_ok-put_numbered.ensures.writes ∙ ap (λ (ws : List Write). c.numbers.writes.items ++ ws) here)
+          c.numbers.invariant.written;
       fits = λ n is ss node same. continued_values f none pdos ss part n number is (omega arith)
           (λ m before. c.numbers.invariant.fits m before ss node same) (c.in_ok-put_numbered.ensures.fits ss node same)
           here;
@@ -64,7 +67,8 @@ returns-clause-writes c =
     let f : Clean → List Write = vendor_tpdo_writes c.args.device.now in
     let none : ℕ → List Write = λ number. unused_writes c.args.device.now (tpdo_object number) in
     let pdos : List (ℕ × Clean) = filter_map (tpdo_of c.args.node) (clean c.args.plan.now) in
-    c.numbers.invariant.written 512 (omega arith)
+    ended (at_each f none pdos) c.args.writes.now.items c.numbers.writes.items c.numbers.number (omega arith)
+    c.numbers.invariant.written
     ∙ ap (λ (ws : List Write). c.args.writes.now.items ++ ws) (sym (all_numbers f none pdos))
 
 pub returns-clause-fits : goal.returns-clause-fits

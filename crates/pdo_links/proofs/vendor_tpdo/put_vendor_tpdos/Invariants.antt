@@ -1,23 +1,26 @@
-use Rattle.std.proofs.Common.{◌≡◌, ℕ, ◌+◌, ◌++◌, List}
+use Rattle.std.proofs.Common.{◌≡◌, ℕ, ◌+◌, List}
 use Rattle.std.specs.Prelude.{filter_map}
 use Rattle.cia301.specs.PdoObjects.{tpdo_object}
 use Rattle.concise_dcf.specs.declared.write.Write.{Write}
 use Rattle.ini_text.specs.Content.{Section}
 use Rattle.pdo_stations.specs.Devices.{as_made}
+use Rattle.pdo_choices.specs.declared.clean.Clean.{Clean}
 use Rattle.pdo_plan.specs.Plan.{clean}
 use Rattle.pdo_links.specs.PdoWrites.{tpdo_of}
 use Rattle.pdo_links.specs.Tables.{AreValues}
 use Rattle.pdo_links.specs.VendorWrites.{unused_writes, vendor_tpdo_writes}
-use Rattle.pdo_links.proofs.EachNumber.{up_to}
+use Rattle.pdo_links.proofs.EachNumber.{at_each, up_to}
+use Rattle.pdo_links.proofs.NumberLemmas.{IsOfAll}
 use Rattle.pdo_links.proofs.vendor_tpdo.put_vendor_tpdos.Given as goal
 
 -- the TPDOs of the numbers so far are written
 abbrev pub invariant-numbers : goal.invariant-numbers
 invariant-numbers l =
-    let so_far : ℕ → List Write = up_to (vendor_tpdo_writes l.device)
-    (λ number. unused_writes l.device (tpdo_object number)) (filter_map (tpdo_of l.node) (clean l.plan)) in
+    let f : Clean → List Write = vendor_tpdo_writes l.device in
+    let none : ℕ → List Write = λ number. unused_writes l.device (tpdo_object number) in
+    let pdos : List (ℕ × Clean) = filter_map (tpdo_of l.node) (clean l.plan) in
     record {
-      written : (n : ℕ) → n + 1 ≡ l.number → l.writes.items ≡ l.initial.writes.items ++ so_far n;
+      written : IsOfAll (at_each f none pdos) l.initial.writes.items l.writes.items l.number;
       fits : (n : ℕ) → n + 1 ≡ l.number → (ss : List Section) (node : ℕ) → l.device ≡ as_made ss node
-          → AreValues ss (so_far n);
+          → AreValues ss (up_to f none pdos n);
     }

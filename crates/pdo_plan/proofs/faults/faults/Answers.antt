@@ -4,7 +4,7 @@ use Rattle.pdo_plan.specs.declared.message_fault.MessageFault.TheVariants.{NoObj
 use Rattle.pdo_plan.specs.declared.message_fault.MessageFault.TheVariants.{NotMappable, Mismatched, NoRpdo, NoDummy}
 use Rattle.pdo_plan.specs.declared.message_fault.MessageFault.TheVariants.{BadIdentifier, NoIdentifier, ReservedType}
 use Rattle.pdo_plan.specs.Plan.{faults_that_hold}
-use Rattle.pdo_plan.specs.Taken.{devices_known, had_in}
+use Rattle.pdo_choices.specs.Taken.{devices_known, had_in}
 use Rattle.pdo_plan.proofs.FaultLemmas.{tested, tested_are}
 use Rattle.pdo_plan.proofs.faults.faults.Goals as goal
 

@@ -1,9 +1,9 @@
 use Rattle.std.proofs.Common.{◌≡◌, ◌==◌, ℕ, [], length, true, false, Some, ap, sym, ◌∙◌, rules}
 use Rattle.pdo_plan.specs.declared.outcome.Outcome.TheVariants.{Planned}
-use Rattle.pdo_plan.specs.Plan.{identifier_for}
-use Rattle.pdo_plan.specs.Taken.{devices_known, had_in}
+use Rattle.pdo_choices.specs.Identifiers.{identifier_for}
+use Rattle.pdo_choices.specs.Taken.{devices_known, had_in}
 use Rattle.pdo_plan.proofs.CleanLemmas.{planned_is, faulty_is, carried_few, none_of, some_of}
-use Rattle.pdo_plan.proofs.JudgedLemmas.{sought_same}
+use Rattle.pdo_choices.proofs.IdentifierLemmas.{sought_same}
 use Rattle.pdo_plan.proofs.LimitLemmas.{limits_of}
 use Rattle.pdo_plan.proofs.judging.judge.Goals.{in_default-via-in-Some+else-is_empty, in_default-via-in_default}
 use Rattle.pdo_plan.proofs.judging.judge.Goals as goal

@@ -1,7 +1,7 @@
 use Rattle.std.proofs.Common.{◌≡◌, take}
 use Rattle.std.specs.List.{filter_map}
 use Rattle.pdo_plan.specs.Carried.{consumer_by}
-use Rattle.pdo_plan.specs.Taken.{devices_known, had_in}
+use Rattle.pdo_choices.specs.Taken.{devices_known, had_in}
 use Rattle.pdo_plan.proofs.judging.planned_consumers.Given as goal
 
 -- those so far

@@ -5,11 +5,12 @@ use Rattle.std.proofs.lemmas.List.Elements.{All-nil, All-head, All-tail}
 use Rattle.project_messages.specs.declared.linked.Linked.{Linked}
 use Rattle.project_messages.specs.Messages.{by_name, IsLinked}
 use Rattle.pdo_plan.specs.declared.planned_message.PlannedMessage.{PlannedMessage}
-use Rattle.pdo_plan.specs.Plan.{had_by, clean, plan_after, plan_of, judged_message, planned_message, IsWithin}
-use Rattle.pdo_plan.specs.Plan.{withheld_by}
+use Rattle.pdo_choices.specs.Had.{had_by, withheld_by}
+use Rattle.pdo_plan.specs.Plan.{clean, plan_after, plan_of, judged_message, planned_message}
+use Rattle.pdo_choices.specs.Limits.{IsWithin}
 use Rattle.pdo_stations.specs.Devices.{devices_of}
 use Rattle.pdo_stations.specs.Shown.{nodes_of}
-use Rattle.pdo_plan.specs.Taken.{devices_known, had_in}
+use Rattle.pdo_choices.specs.Taken.{devices_known, had_in}
 use Rattle.pdo_plan.proofs.JudgedLemmas.{judged_within}
 use Rattle.pdo_plan.proofs.PlanLemmas.{had_step, plan_step, within_step}
 use Rattle.pdo_plan.proofs.planning.plan.Goals as goal

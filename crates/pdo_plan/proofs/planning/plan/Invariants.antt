@@ -2,10 +2,12 @@ use Rattle.std.proofs.Common.{◌≡◌, ◌++◌}
 use Rattle.std.specs.FinMap.{entries}
 use Rattle.std.specs.List.{All}
 use Rattle.project_messages.specs.Messages.{by_name, IsLinked}
-use Rattle.pdo_plan.specs.Plan.{had_by, clean, plan_after, plan_of, IsWithin, withheld_by}
+use Rattle.pdo_choices.specs.Had.{had_by, withheld_by}
+use Rattle.pdo_plan.specs.Plan.{clean, plan_after, plan_of}
+use Rattle.pdo_choices.specs.Limits.{IsWithin}
 use Rattle.pdo_stations.specs.Devices.{devices_of}
 use Rattle.pdo_stations.specs.Shown.{nodes_of}
-use Rattle.pdo_plan.specs.Taken.{devices_known, had_in}
+use Rattle.pdo_choices.specs.Taken.{devices_known, had_in}
 use Rattle.pdo_plan.proofs.planning.plan.Given as goal
 
 -- the plan so far and that of the rest are the whole plan, the tables have what its clean ones have, and all keep to

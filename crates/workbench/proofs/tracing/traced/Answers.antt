@@ -1,5 +1,5 @@
 use Rattle.std.proofs.Common.{◌∙◌, ◌+◌, ◌/◌, ap, arith, subst, sym}
-use Rattle.pdo_plan.proofs.LimitLemmas.{between}
+use Rattle.pdo_choices.proofs.RangeLemmas.{between}
 use Rattle.can_bus.specs.Runs.{trace}
 use Rattle.image_parts.specs.Images.{IsImage}
 use Rattle.network_image.specs.Image.{image_of}

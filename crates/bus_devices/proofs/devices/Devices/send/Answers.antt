@@ -6,8 +6,8 @@ use Rattle.bus_devices.proofs.SentLemmas.{sent_from, written_back}
 use Rattle.bus_devices.specs.declared.block.Block.{Block}
 use Rattle.bus_devices.proofs.devices.Devices.send.Goals as goal
 
-pub plan_best-requires : goal.plan_best-requires
-plan_best-requires c =
+pub renew_best-requires : goal.renew_best-requires
+renew_best-requires c =
     let ds = c.self.inside.devices.items in
     let within : c.args.i < length ds = rw (← c.self.view_is) at c.requires.device in
     let due : IsDueAsBefore (device_at ds c.args.i) c.send.new.self =
@@ -28,14 +28,14 @@ invariant_of-self-then-known c =
     let old = c.self.inside.devices.items in
     let within : c.args.i < length old = rw (← c.self.view_is) at c.requires.device in
     let ds = slice_set c.self.inside.devices.items c.args.i c.send.new.self in
-    let back : c.deref-then-known.result.now ≡ c.plan_best.new.blocks = c.deref-then-known.ensures.value
-    ∙ written_back c.plan_best.new.blocks c.self.inside.blocks.items c.self.inside.blocks.len
-    (omega (arith, c.plan_best.auto.blocks, c.as_mut_slice.ensures.len)) in
+    let back : c.deref-then-known.result.now ≡ c.renew_best.new.blocks = c.deref-then-known.ensures.value
+    ∙ written_back c.renew_best.new.blocks c.self.inside.blocks.items c.self.inside.blocks.len
+    (omega (arith, c.renew_best.auto.blocks, c.as_mut_slice.ensures.len)) in
     let blocks = c.deref-then-known.result.now in
     let each : AreBlocksOf blocks ds = subst (λ (bs : List Block). AreBlocksOf bs ds) (sym back)
-    (rw c.deref.ensures.value at c.plan_best.ensures.blocks) in
+    (rw c.deref.ensures.value at c.renew_best.ensures.blocks) in
     let alarms : alarms_of blocks ≡ alarms_of c.self.inside.blocks.items =
-    ap alarms_of back ∙ c.plan_best.ensures.alarms ∙ ap alarms_of c.as_mut_slice.ensures.value in
+    ap alarms_of back ∙ c.renew_best.ensures.alarms ∙ ap alarms_of c.as_mut_slice.ensures.value in
     λ known. record {
       each = subst (λ (bs : List Block). AreBlocksOf bs ds) c.deref-then-known.ensures.value each;
       all = subst (λ (bs : List Block). FollowsFromBlocks (record c.self.inside.all { best = c.best_of-self-inside.result }) bs)

@@ -6,4 +6,4 @@ returns-clause-alarm c ds es one other = c.and-self.ensures.devices ds es one ot
 
 pub returns-clause-best : goal.returns-clause-best
 returns-clause-best c ds es one other =
-    best_of_both ds es c.args.self.now.best c.args.other.now.best c.keep_lower.new.best one other c.keep_lower.ensures
+    best_of_both ds es c.args.self.now.best c.args.other.now.best c.keep_winner.new.best one other c.keep_winner.ensures

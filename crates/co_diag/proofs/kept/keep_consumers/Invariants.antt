@@ -1,9 +1,0 @@
-use Rattle.std.proofs.Common.{◌≡◌, ◌++◌, filter_map, take}
-use Rattle.project_plan.specs.Values.{number_among}
-use Rattle.co_diag.specs.Rules.{consumer_of}
-use Rattle.co_diag.proofs.kept.keep_consumers.Given as goal
-
-abbrev pub invariant-loop-index : goal.invariant-loop-index
-invariant-loop-index l = l.consumers.items
-    ≡ l.fn.consumers.items ++ filter_map (consumer_of (number_among l.device.sections l.values) l.id)
-    (take l.index-index l.index-items)
