@@ -1,7 +1,8 @@
 """Scripts of version 3, small and nasty.
 
 A sheet is made together with what it can do (class Sheet), so that most messages fit the PDOs of their nodes; then some
-commands are spoiled on purpose. Those of `vendors` have no type that only version 3 has, and no controller."""
+commands are spoiled on purpose. Those of `vendors` have no type that only version 3 has, and no controller; those of `types`
+have all types."""
 from typing import Dict, List
 
 from rules.values import OF_VERSION_3
@@ -110,9 +111,9 @@ def alike(source, sink):
 
 
 class Sheet:
-    def __init__(self, r, name, is_usual):
+    def __init__(self, r, name, has_types):
         self.r, self.name, self.lines = r, name, []
-        self.types, self.patterns = (USUAL_TYPES, USUAL_PATTERNS) if is_usual else (TYPES, PATTERNS)
+        self.types, self.patterns = (TYPES, PATTERNS) if has_types else (USUAL_TYPES, USUAL_PATTERNS)
         self.access = {}
         self._dummies()
         self._entries()
@@ -298,9 +299,9 @@ class Sheet:
 # ----------------------------------------------------------------- networks
 
 class Network:
-    def __init__(self, r, is_usual):
-        self.r, self.out, self.is_usual = r, [], is_usual
-        self.types = list(USUAL_TYPES if is_usual else TYPES)
+    def __init__(self, r, has_types, has_controllers):
+        self.r, self.out, self.has_types, self.has_controllers = r, [], has_types, has_controllers
+        self.types = list(TYPES if has_types else USUAL_TYPES)
         self.messages, self.receives, self.version, self.heartbeat = {}, {}, 3, 0
         self.consumers_of = {}
         self.used_rpdos, self.identifiers, self.used_tpdos = set(), set(), set()
@@ -331,14 +332,14 @@ class Network:
             self.say(b"version 3")
         self.say(b"bitrate %d", r.choice([1000] * 12 + [500, 500, 500, 250, 125, 50, 20, 10]))
         self.say(b"horizon %d", r.choice([12000, 20000, 25000, 30000, 40000]))
-        self.sheets = [Sheet(r, name, self.is_usual) for name in r.sample([b"a", b"b", b"c"], r.choice([2, 2, 3]))]
+        self.sheets = [Sheet(r, name, self.has_types) for name in r.sample([b"a", b"b", b"c"], r.choice([2, 2, 3]))]
         for sheet in self.sheets:
             self.eds(sheet)
         numbers = r.sample([1, 2, 5, 6, 7, 17, 126, 127], r.choice([2, 3, 3, 4]))
         if r.random() < 0.03:
             numbers = numbers[:1]
-        self.manager = r.choice(numbers) if not self.is_usual and r.random() < 0.6 else r.choice([3, 127, 4])
-        if self.is_usual and self.manager in numbers:
+        self.manager = r.choice(numbers) if self.has_controllers and r.random() < 0.6 else r.choice([3, 127, 4])
+        if not self.has_controllers and self.manager in numbers:
             self.manager = 99
         self.nodes = {n: r.choice(self.sheets) for n in numbers}
         if late:
@@ -392,7 +393,7 @@ class Network:
         if r.random() < 0.15:
             self.say(b"param %d 1019 0 %d", n, r.choice([0, 2, 3]))
         for index in r.sample(self.types, r.choice([0, 1, 1, 2])) + r.choice(
-                [[], []] if self.is_usual else [[], [], [0x200D], [0x200E]]):
+                [[], [], [0x200D], [0x200E]] if self.has_types else [[], []]):
             self.say(b"param %d %04X 0 %s", n, index, text_of(r, index))
 
     # ------------------------------------------------------------- messages
@@ -707,8 +708,12 @@ class Network:
 
 
 def script(r):
-    return Network(r, False).script()
+    return Network(r, True, True).script()
+
+
+def types(r):
+    return Network(r, True, False).script()
 
 
 def vendors(r):
-    return Network(r, True).script()
+    return Network(r, False, False).script()

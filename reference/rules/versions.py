@@ -7,4 +7,4 @@ STARTS = "starts"              # the manager starts by number each node that it 
 CONTROLLER = "controller"      # a node may have the manager's number: it is the device that the manager runs in
 
 WHOLE = frozenset({TYPES, STARTS, CONTROLLER})
-PROVED = frozenset({STARTS})   # those that the proved cobench has
+PROVED = frozenset({TYPES, STARTS})   # those that the proved cobench has

@@ -16,8 +16,9 @@ from dataclasses import astuple, dataclass, replace
 from typing import Dict, List, Optional
 
 from .bus import WINDOW, Bus, Image, Roster
+from .entries import code_of, compact_count, object_sections
 from .messages import plan_of
-from .values import OF_VERSION_3, UNSIGNED8, UNSIGNED16, UNSIGNED32
+from .values import OF_VERSION_3, UNSIGNED8, UNSIGNED16, UNSIGNED32, type_of_code
 from .versions import TYPES
 from .writes import node_writes
 
@@ -82,7 +83,7 @@ class Parts:
             del self.held[name]
 
     def bring_device(self, node):
-        """That of the node's text: its sections, its warned lines, and which entries have types of version 3."""
+        """That of the node's text: its sections, its warned lines, and what has types of version 3."""
         name, has_types = self.project.nodes[node].eds, self.project.has(TYPES)
         sheet, inputs = self.project.sheets[name], (self.project.texts[name], has_types)
         return self.bring(("Device", name), inputs, lambda: device_value(sheet))
@@ -116,7 +117,9 @@ class Parts:
 def device_value(sheet):
     sections = [(section.name, list(section.pairs.values())) for section in sheet.content.sections.values()]
     types = {place: kind for place, kind in sheet.types.items() if kind in OF_VERSION_3}
-    return sections, sheet.content.warnings, types
+    compact = {section.name for section in object_sections(sheet.content) if compact_count(section)
+               and type_of_code(code_of(section), sheet.has_all_types) in OF_VERSION_3}
+    return sections, sheet.content.warnings, types, compact
 
 
 def planned_value(planned):

@@ -15,7 +15,7 @@ for another one is passed over."""
 
 # Which commands find what: all that run cobench; check and export; check --files; eds; load; conform; bus.
 PLAN = frozenset("refused failed unconfigured pdo-values emergency not-operational never-sent".split())
-SCRIPT = frozenset("replaced no-source no-sink receive-time late-event bit-rate taken-twice sheet".split())
+SCRIPT = frozenset("replaced no-source no-sink receive-time late-event bit-rate taken-twice real-limits sheet".split())
 FILES = frozenset("edited missing stale mix".split())
 SHEET = frozenset("pdo-values sheet".split())
 LOAD = frozenset("late unbounded overload assumed trace".split())

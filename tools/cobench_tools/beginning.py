@@ -3,7 +3,8 @@ import os
 import re
 
 from . import script, tool, values
-from .device import BITS, Device, read_number
+from .data_types import OF_VERSION_3, WHOLE, are_unlike
+from .device import Device, read_number
 from .joined import Draft, free_name
 from .limits import RATES
 from .machine import message_lines
@@ -26,7 +27,7 @@ class Sheet:
     """A data sheet that a script takes in: its name there, its file, and its device."""
 
     def __init__(self, name, path, lines):
-        self.name, self.path, self.device = name, path, Device(lines)
+        self.name, self.path, self.device = name, path, Device(lines, WHOLE)
         if not self.device.entries:
             raise tool.Fault(f"{path}: no section of it describes an entry: this is no data sheet")
 
@@ -52,6 +53,11 @@ def check_path(path):
         raise tool.Fault(f"{path!r}: no script can name this file")
 
 
+def can_take(entry, part):
+    """Whether an entry could take a part of a message."""
+    return entry.is_taken() and entry.bits == part.bits and not are_unlike(entry.kind, part.entry.kind)
+
+
 class Takers:
     """The entries that could take what is sent: each is given once, and a node takes a message for each RPDO."""
 
@@ -72,7 +78,7 @@ class Takers:
         for number, node in self.nodes.items():
             if number != sender and (number in nodes or self.left[number]):
                 for key, entry in node.device.entries.items():
-                    if entry.is_taken() and BITS[entry.kind] == part.bits and (number, key) not in self.given:
+                    if can_take(entry, part) and (number, key) not in self.given:
                         self.given.add((number, key))
                         nodes.add(number)
                         return number, key
@@ -109,10 +115,13 @@ class Beginning:
 
     @property
     def version(self):
-        """That of the script: 3 where a PDO that is on can't be set, as one of a fixed mapping, else 2."""
+        """That of the script: 3 where a PDO that is on can't be set, as one of a fixed mapping, or has a data type of version 3, else
+        2."""
         sent = (SentOrTaken(node.device, number, TPDO, pdo.number).why_not_sent(self._draft(pdo).message(), pdo.items)
                 for number, node in self.nodes.items() for pdo in node.pdos(TPDO))
-        return 3 if any(sent) else 2
+        carried = (part.entry.kind for node in self.nodes.values() for way in (TPDO, RPDO) for pdo in node.pdos(way)
+                   for part in pdo.parts if not part.is_dummy())
+        return 3 if any(sent) or any(kind in OF_VERSION_3 for kind in carried) else 2
 
     def lines(self):
         """The lines of the script."""

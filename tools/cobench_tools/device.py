@@ -3,13 +3,10 @@ import functools
 import re
 from typing import Dict, Iterable, List, Optional, Tuple
 
-from . import ini, safe_text, tool
+from . import ini, reals, safe_text, tool
+from .data_types import BITS, BOOLEAN, NUMBERS, REALS, SIGNED, UNSIGNED, UNSIGNED8, VISIBLE_STRING, is_modelled
 
-BITS = {1: 1, 2: 8, 3: 16, 4: 32, 0x15: 64, 5: 8, 6: 16, 7: 32, 0x1B: 64}
-SIGNED = {2, 3, 4, 0x15}
-BOOLEAN, VISIBLE_STRING = 1, 9
 VAR, DOMAIN, ARRAY, RECORD = 7, 2, 8, 9
-UNSIGNED8 = 5
 LEAST, GREATEST = -(1 << 63), (1 << 64) - 1
 MOST_DIGITS = 22                     # so many octal digits has the greatest number
 Key = Tuple[int, int]                # index and sub-index
@@ -51,7 +48,7 @@ def object_name(key: Key) -> str:
 
 
 class Entry:
-    """One entry of a data sheet.
+    """One entry of a data sheet, as scripts of a version have it.
 
     name, kind   its name, and the number of its data type, 0 for none
     default      its default as text
@@ -62,9 +59,9 @@ class Entry:
     keys         the section that describes it
     """
 
-    def __init__(self, name: str, keys: ini.Section) -> None:
+    def __init__(self, name: str, keys: ini.Section, version: int) -> None:
         access = keys.get("accesstype", "").lower()
-        self.keys = keys
+        self.keys, self.version = keys, version
         self.name, self.kind, self.default = name, kind_of(keys), keys.get("defaultvalue", "")
         self.access = access if access in ACCESSES else "rw"
         self.low, self.high = keys.get("lowlimit", ""), keys.get("highlimit", "")
@@ -75,16 +72,30 @@ class Entry:
         """The line of the data sheet that has a key of its section, or the section."""
         return self.keys.lines.get(key, self.keys.line)
 
+    @property
+    def is_modelled(self) -> bool:
+        """Whether cobench has values of its data type."""
+        return is_modelled(self.kind, self.version)
+
+    @property
+    def bits(self) -> Optional[int]:
+        """The bits of each of its values, None where they differ, or where cobench has none of its data type."""
+        return BITS.get(self.kind) if self.is_modelled else None
+
+    def is_of_identity(self) -> bool:
+        """Whether the boot compares it, where it says who the device is: an unsigned number of at most four bytes."""
+        return self.is_modelled and UNSIGNED.get(self.kind, 64) <= 32
+
     def is_writable(self) -> bool:
         return self.access not in ("ro", "const")
 
     def is_sent(self) -> bool:
         """Whether a TPDO can carry it."""
-        return self.mappable and self.kind in BITS and self.access in ("ro", "rw", "rwr", "const")
+        return self.mappable and self.bits is not None and self.access in ("ro", "rw", "rwr", "const")
 
     def is_taken(self) -> bool:
         """Whether an RPDO can carry it."""
-        return self.mappable and self.kind in BITS and self.access in ("wo", "rw", "rww")
+        return self.mappable and self.bits is not None and self.access in ("wo", "rw", "rww")
 
 
 def kind_of(keys: ini.Section) -> int:
@@ -94,10 +105,10 @@ def kind_of(keys: ini.Section) -> int:
 
 
 class Device:
-    """The entries of a data sheet by index and sub-index, and its sections."""
+    """The entries of a data sheet by index and sub-index, and its sections, as scripts of a version have them."""
 
-    def __init__(self, lines: Iterable[bytes]) -> None:
-        self.sections = ini.sections_of(lines)
+    def __init__(self, lines: Iterable[bytes], version: int) -> None:
+        self.sections, self.version = ini.sections_of(lines), version
         self.entries: Dict[Key, Entry] = {}
         for section in self.sections:
             found = re.fullmatch(r"([0-9a-f]{4})sub([0-9a-f]{1,2})", section)
@@ -162,12 +173,13 @@ class Device:
         return safe_text.readable(self._section(section).get("parametername", ""))
 
     def _entry(self, section: str, record: Optional[str]) -> Entry:
-        return Entry(": ".join(each for each in (record, self._name(section)) if each), self.sections[section])
+        return Entry(": ".join(each for each in (record, self._name(section)) if each), self.sections[section],
+                     self.version)
 
     def default(self, index: int, sub: int, node: int) -> Optional[int]:
         """The number that an entry has at a node from power-on on, else None."""
         entry = self.entries.get((index, sub))
-        return read_formula(entry.default, node) or 0 if entry and entry.kind in BITS else None
+        return read_formula(entry.default, node) or 0 if entry and entry.is_modelled and entry.kind in NUMBERS else None
 
     def allows_dummy(self, kind: int) -> bool:
         """Whether RPDOs can skip bits by a dummy of that data type."""
@@ -175,7 +187,7 @@ class Device:
 
 
 def text_of(data: bytes, kind: int) -> str:
-    """Bytes as a value of a data type: signed decimal, hexadecimal of the type's width with an h, or a text."""
+    """Bytes as a value of a data type: signed decimal, hexadecimal of the type's width with an h, a REAL, or a text."""
     if kind == VISIBLE_STRING:
         return '"' + safe_text.readable(tool.shown(data)) + '"'
     number = int.from_bytes(data, "little")
@@ -183,6 +195,8 @@ def text_of(data: bytes, kind: int) -> str:
         return str(number & 1)
     if kind in SIGNED:
         return str(int.from_bytes(data, "little", signed=True))
+    if 8 * len(data) == REALS.get(kind):
+        return reals.text_of(kind, data)
     return f"{number:0{2 * len(data)}X}h" if 0 < len(data) <= 8 else data.hex(" ").upper()
 
 
@@ -192,7 +206,13 @@ def number_at(data: bytes, start: int, bits: int, kind: int) -> int:
     return number - (1 << bits) if kind in SIGNED and number >> bits - 1 else number
 
 
+def decimal_at(data: bytes, start: int, bits: int, kind: int) -> str:
+    """The bits of a frame from a position on, as a decimal number of a data type."""
+    is_real = bits == REALS.get(kind)
+    return value_at(data, start, bits, kind) if is_real else str(number_at(data, start, bits, kind))
+
+
 def value_at(data: bytes, start: int, bits: int, kind: int) -> str:
     """The bits of a frame from a position on, as the text of a value of a data type."""
-    count = (bits + 7) // 8
+    count, kind = (bits + 7) // 8, kind if bits == REALS.get(kind, bits) else 0
     return text_of((number_at(data, start, bits, kind) & (1 << 8 * count) - 1).to_bytes(count, "little"), kind)

@@ -41,7 +41,7 @@ class Evidence:
     def sheet(self, eds):
         """The data sheet of a name; one without entries where none has it, as in replies of another session."""
         if eds not in self._devices:
-            self._devices[eds] = Device(self.project.texts.get(eds, []))
+            self._devices[eds] = Device(self.project.texts.get(eds, []), self.project.version)
         return self._devices[eds]
 
     def value_lines(self, eds):

@@ -60,7 +60,7 @@ def value(node, key):
         return "none"
     if key in node.written:
         return pdo_text(key, node.written[key]) or value_text(entry_there.kind, node.written[key])
-    if entry_there.kind not in values.MODELLED:
+    if not entry_there.is_modelled:
         return "default"
     data = values.default_of(entry_there, node.number)
     return f"default {pdo_text(key, data) or value_text(entry_there.kind, data)}".rstrip()

@@ -10,7 +10,7 @@ from .value_causes import ValueCauses
 
 ERROR, WARNING = "error", "warning"
 PDO_VALUES = "pdo-values"
-WARNED = PDO_VALUES, "replaced", "no-source", "no-sink", "late-event", "bit-rate", "taken-twice", "receive-time", "sheet"
+WARNED = PDO_VALUES, "replaced", "no-source", "no-sink", "late-event", "bit-rate", "taken-twice", "receive-time", "real-limits", "sheet"
 OF_PDOS = "tpdo", "rpdo", "limit", "receive"
 MOST_NOTES = 8
 

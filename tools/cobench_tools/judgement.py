@@ -2,7 +2,7 @@
 
 `of` is what each command counts; `of_check` is what `check` and `export` say besides.
 """
-from . import findings, sheet_faults, slips, taken_twice, trace
+from . import findings, real_limits, sheet_faults, slips, taken_twice, trace
 from .evidence import Evidence
 from .planned_run import PlannedRun
 from .run_findings import RunFindings, why_not_over
@@ -21,7 +21,8 @@ def of_evidence(evidence):
 def of_check(answered):
     """What `check` and `export` say: slips of the script and faults of the data sheets too."""
     evidence = Evidence(answered)
-    return of_evidence(evidence) + slips.of(evidence) + taken_twice.of(evidence) + sheet_faults.of(evidence)
+    of_script = slips.of(evidence) + taken_twice.of(evidence) + real_limits.of(evidence) + sheet_faults.of(evidence)
+    return of_evidence(evidence) + of_script
 
 
 def of_run(evidence, said_of=None):

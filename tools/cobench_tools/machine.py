@@ -14,9 +14,9 @@ SYNC_PRODUCER = TIME_PRODUCER = 1 << 30
 LEAST_SYNC, LONGEST_SYNC = 1_000, 10_000_000
 
 
-def read_files(paths):
-    """The DCFs of a machine, by node."""
-    files = sorted(map(NodeFile, paths), key=lambda file: file.number)
+def read_files(paths, version):
+    """The DCFs of a machine, by node, for a script of a version."""
+    files = sorted((NodeFile(path, version) for path in paths), key=lambda file: file.number)
     for one, other in zip(files, files[1:]):
         if one.number == other.number:
             raise tool.Fault(f"{one.path} and {other.path} are both of node {one.number}")
@@ -36,19 +36,38 @@ def comment(text):
     return f"# {safe_text.readable(text)}"
 
 
-def joined_best(files):
-    """The messages of the files, and what there is to tell of the PDOs of each node: by version 3 where less is lost so."""
-    old = Joined(files)
-    lost = told_of_pdos(old)
-    if not any(lost.values()):
-        return old, lost
-    new = Joined(files, 3)
-    told = told_of_pdos(new)
-    return (new, told) if count_of_warnings(told) < count_of_warnings(lost) else (old, lost)
+class Taken:
+    """What a script of a version takes over of the DCFs of a machine.
+
+    files   the DCFs, by node
+    joined  their messages
+    values  the values of each node that are none of PDOs
+    pdos    what there is to tell of the PDOs of each node
+    """
+
+    def __init__(self, paths, version, with_defaults):
+        self.files = read_files(paths, version)
+        self.joined = Joined(self.files, version)
+        self.values = {file.number: NodeValues(file, with_defaults) for file in self.files}
+        self.pdos = told_of_pdos(self.joined)
+
+    def tells_all(self):
+        """Whether nothing is to be told of its PDOs, and none of its values is lost."""
+        return not any(self.pdos.values()) and not any(each.lost for each in self.values.values())
+
+    def loss(self):
+        """How many values are lost, and how much else there is to warn of."""
+        warned = sum(severity == WARNING for several in self.pdos.values() for _, severity, _ in several)
+        return warned + sum(each.lost for each in self.values.values())
 
 
-def count_of_warnings(told):
-    return sum(severity == WARNING for several in told.values() for _, severity, _ in several)
+def taken_best(paths, with_defaults):
+    """What a script takes over: one of version 3 where less is lost so, else one of version 1."""
+    old = Taken(paths, 1, with_defaults)
+    if old.tells_all():
+        return old
+    new = Taken(paths, 3, with_defaults)
+    return new if new.loss() < old.loss() else old
 
 
 def told_of_pdos(joined):
@@ -74,15 +93,14 @@ class Machine:
     """
 
     def __init__(self, paths, with_defaults):
-        self.files = read_files(paths)
+        taken = taken_best(paths, with_defaults)
+        self.files, self.joined, self.values = taken.files, taken.joined, taken.values
         self.sheets, self.sheet_of = {}, {}
         self._share_sheets()
-        self.joined, lost = joined_best(self.files)
         if len(self.joined.drafts) > MOST_MESSAGES:
             raise tool.Fault(f"they have {len(self.joined.drafts):,} messages, and cobench takes {MOST_MESSAGES:,}")
-        self.values = {file.number: NodeValues(file, with_defaults) for file in self.files}
         self.bitrate = next((file.bitrate for file in self.files if file.bitrate in RATES), None)
-        self.told = [(file.path, *each) for file in self.files for each in sorted(lost[file.number] + self._told_of(file))]
+        self.told = [(file.path, *each) for file in self.files for each in sorted(taken.pdos[file.number] + self._told_of(file))]
 
     def _told_of(self, file):
         """What there is to tell of a file but for its PDOs: a line, `warning` or `note`, and words each."""

@@ -1,6 +1,7 @@
 """The tables of a network for the papers of its machine: nodes, messages, signals, parameters, heartbeats."""
-from . import pdo_values, safe_text, tool, values
-from .device import BITS, SIGNED, VISIBLE_STRING, object_name
+from . import pdo_values, reals, safe_text, tool, values
+from .data_types import NUMBERS, REALS, SIGNED, VISIBLE_STRING, type_name
+from .device import object_name
 from .meaning import day_text
 from .tables import Table
 
@@ -8,10 +9,12 @@ NONE = "-"
 
 
 def value_text(kind, data):
-    """Bytes as a value of a data type: numbers decimal, unsigned ones hexadecimal too."""
+    """Bytes as a value of a data type: numbers decimal, unsigned ones of integer types hexadecimal too."""
     if kind == VISIBLE_STRING:
         return safe_text.readable(tool.shown(data))
-    if kind not in BITS:
+    if 8 * len(data) == REALS.get(kind):
+        return reals.text_of(kind, data)
+    if kind not in NUMBERS:
         return data.hex(" ").upper()
     number = int.from_bytes(data, "little", signed=kind in SIGNED)
     return str(number) if kind in SIGNED or number < 10 else f"{number} ({number:X}h)"
@@ -110,7 +113,7 @@ def signal_rows(network, tpdo):
     """For each part of a TPDO and each RPDO that takes of it: bits, entry, name and type, and those of the receiver."""
     rows = []
     for part in tpdo.parts:
-        sent = [bits_text(part), object_name(part.key), part.entry.name, values.type_name(part.entry.kind)]
+        sent = [bits_text(part), object_name(part.key), part.entry.name, type_name(part.entry.kind)]
         taken = [target_cells(network, part, *target) for target in network.targets(tpdo, part)]
         rows += [sent + cells for cells in taken or [[NONE] * 4]]
     return rows

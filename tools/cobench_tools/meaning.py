@@ -7,6 +7,7 @@ import datetime
 from collections import namedtuple
 
 from . import device, receiver_names
+from .data_types import REALS
 from .logs.rows import NAMES
 from .trace import Foreign, Note
 
@@ -140,7 +141,7 @@ class Network:
 
     def __init__(self, project=None, with_names=False, devices=None):
         if project and devices is None:
-            devices = {name: device.Device(lines) for name, lines in project.texts.items()}
+            devices = {name: device.Device(lines, project.version) for name, lines in project.texts.items()}
         self.manager = project.manager[0] if project else 127
         self.names = {node: name for node, (name, _) in project.nodes.items()} if project else {}
         self.devices = {node: devices[eds] for node, (_, eds) in project.nodes.items()} if project else {}
@@ -180,8 +181,9 @@ class Network:
         return f" {entry.name}" if entry and entry.name else ""
 
     def kind_of(self, node, key):
+        """The data type of an entry, 0 where it isn't known or isn't modelled."""
         entry = self.devices[node].entries.get(key) if node in self.devices else None
-        return entry.kind if entry else 0
+        return entry.kind if entry and entry.is_modelled else 0
 
     # What a node's PDOs are.
 
@@ -329,8 +331,11 @@ class Network:
         if byte in (0x60, 0x70):
             return said(f"read segment {transfer.segments + 1}" if transfer else "read segment")
         if byte < 0x20 and transfer:
-            transfer = self.take_segment(node, transfer, segment_of(data)[0])
-            return said(f"segment {transfer.segments}: {segment_of(data)[0].hex(' ').upper()}".strip())
+            piece, last = segment_of(data)
+            transfer = self.take_segment(node, transfer, piece)
+            is_real = last and self.kind_of(node, transfer.key) in REALS
+            number = f" ({self.value(node, transfer)})" if is_real else ""
+            return said(f"segment {transfer.segments}: {piece.hex(' ').upper()}".strip() + number)
         return said(f"command {byte:02X}h")
 
     def take_segment(self, node, transfer, piece):

@@ -29,7 +29,7 @@ def is_export(lines):
 
 
 class NodeFile:
-    """A DCF as it was read.
+    """A DCF as it was read for a script of a version.
 
     path            the file
     number, name    the node's
@@ -42,11 +42,11 @@ class NodeFile:
     node            the node with the values that the file gives
     """
 
-    def __init__(self, path):
+    def __init__(self, path, version):
         self.path = path
         lines = script.eds_lines(b"dcf", path)
         self.is_export = is_export(lines)
-        self.device = Device(lines)
+        self.device = Device(lines, version)
         self._read_commissioning()
         self.sheet = self._without_values(lines)
         self.node = Node(self.number, self.device, self._given_values())
@@ -76,7 +76,7 @@ class NodeFile:
     def _given_values(self):
         """The bytes of the entries to which the file gives values."""
         found = {key: values.data_of(entry.kind, entry.value, self.number)
-                 for key, entry in self.device.entries.items() if entry.value}
+                 for key, entry in self.device.entries.items() if entry.value and entry.is_modelled}
         return {key: data for key, data in found.items() if data is not None}
 
     def on_pdos(self, direction):
@@ -92,7 +92,7 @@ class NodeFile:
     def _without_values(self, lines):
         """The lines of the data sheet; values of types that cobench doesn't model stay, as no script can set them."""
         given = {entry.line for key, entry in self.device.entries.items()
-                 if entry.value and (entry.kind in values.MODELLED or is_of_pdos(key[0]))}
+                 if entry.value and (entry.is_modelled or is_of_pdos(key[0]))}
         kept, section, start = [], "", 0
         for number, line in enumerate(lines, 1):
             name = ini.header_of(line.strip(ini.BLANKS))

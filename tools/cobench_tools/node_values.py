@@ -2,6 +2,7 @@
 import re
 
 from . import values
+from .data_types import type_name
 from .device import object_name
 from .pdo_values import is_of_pdos
 
@@ -15,6 +16,7 @@ class NodeValues:
 
     parameters  the entry and the text of each that a script sets, by index and sub-index
     told        what a script can't say, or needn't: a line, `warning` or `note`, and words each
+    lost        how many values no script sets
     """
 
     def __init__(self, file, with_defaults):
@@ -32,16 +34,17 @@ class NodeValues:
                 equal.append((entry.line, key))
             else:
                 self.parameters.append((key, entry.value))
+        self.lost = sum(map(len, [*unset.values(), *kept.values()]))
         for why, several in unset.items():
             self._tell(WARNING, several, f"not taken over, as {why}")
         for kind, several in kept.items():
             self._tell(WARNING, several, "kept in the data sheet, and so in the DCF (E16), but not written, as of "
-                       f"{values.type_name(kind)}, a data type that cobench doesn't write")
+                       f"{type_name(kind)}, a data type that cobench doesn't write")
         self._tell(NOTE, equal, "no parameter is needed for the default's value (--all makes one)")
 
     def _stays(self, key, entry):
         """Whether a value stays in the data sheet, as cobench doesn't model its type."""
-        return entry.kind not in values.MODELLED and not is_of_pdos(key[0])
+        return not entry.is_modelled and not is_of_pdos(key[0])
 
     def _is_default(self, key, entry):
         return self.file.node.written.get(key) == values.default_of(entry, self.file.number)
@@ -50,11 +53,11 @@ class NodeValues:
         """Why a value can't be set, or None; the value that an entry can't but have needs no word."""
         data = self.file.node.written.get(key)
         if is_of_pdos(key[0]):
-            return f"no value of {values.type_name(entry.kind)}" if data is None else None
+            return f"no value of {type_name(entry.kind)}" if data is None else None
         if not entry.is_writable():
             return None if self._is_default(key, entry) else "read only, and not the default"
         if data is None:
-            return f"no value of {values.type_name(entry.kind)}"
+            return f"no value of {type_name(entry.kind)}"
         if len(entry.value) > LONGEST_TEXT or re.search("[\x00-\x08\x0a-\x1f]", entry.value):
             return "a text that no command can have"
         return None if self._is_within(entry) else "beyond the limits of the data sheet"

@@ -3,7 +3,7 @@
 In scripts of versions 1 and 2 each entry that a message needs is written (SentOrTaken); version 3 has rules of its own
 (vendor_pdo.py).
 """
-from . import values
+from .data_types import type_name
 from .device import object_name
 from .wiring import COMMUNICATION, OFF, RPDO
 
@@ -44,7 +44,7 @@ class PdoObjects:
         if not entry:
             return f"{object_name(key)} isn't there"
         if entry.kind != kind:
-            return f"{self.described(key)} is {values.type_name(entry.kind)}, and not {values.type_name(kind)}"
+            return f"{self.described(key)} is {type_name(entry.kind)}, and not {type_name(kind)}"
         return None if entry.is_writable() else f"{self.described(key)} is {entry.access}"
 
     def takes(self, key, kind):

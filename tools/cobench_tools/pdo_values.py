@@ -4,6 +4,7 @@ import weakref
 from typing import List
 
 from . import tool
+from .data_types import WHOLE
 from .device import Device
 
 FIRST, LAST = 0x1400, 0x1BFF
@@ -18,7 +19,7 @@ def is_of_pdos(index):
 
 def lines_with_values(lines):
     """The lines of a data sheet that give values to entries of PDO objects, by number from 1."""
-    return lines_of(Device(lines)) if any(map(MAY_GIVE_VALUES.search, lines)) else []
+    return lines_of(Device(lines, WHOLE)) if any(map(MAY_GIVE_VALUES.search, lines)) else []
 
 
 def lines_of(device):

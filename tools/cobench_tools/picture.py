@@ -19,7 +19,7 @@ from operator import itemgetter, sub
 
 from . import meaning, safe_text
 from .boots import is_boot_up
-from .device import BOOLEAN, SIGNED
+from .data_types import BOOLEAN, REALS, SIGNED
 from .trace import Foreign, Note, is_stuffed
 
 OTHERS = -1
@@ -29,8 +29,10 @@ BY_BYTE = {4: "stopped", 5: "operational", 127: "pre-operational"}
 BY_SERVICE = {1: "operational", 2: "stopped", 128: "pre-operational", 129: "pre-operational", 130: "pre-operational"}
 
 
-def form_of(kind):
-    """How a value of a data type is shown, as `device.text_of` does."""
+def form_of(kind, bits):
+    """How a value of a data type is shown that has so many bits, as `device.value_at` does."""
+    if bits == REALS.get(kind):
+        return "real"
     return "signed" if kind in SIGNED else "bit" if kind == BOOLEAN else "unsigned"
 
 
@@ -59,7 +61,7 @@ def text_of(said):
     """What all frames of a sort say: of a PDO its subject, and the parts of its values, None where they aren't known."""
     if said.kind != meaning.PDO:
         return safe_text.readable(said.first)
-    parts = said.parts and tuple((label, bits, form_of(kind)) for label, bits, kind in said.parts)
+    parts = said.parts and tuple((label, bits, form_of(kind, bits)) for label, bits, kind in said.parts)
     return said.subject, parts
 
 

@@ -2,8 +2,8 @@
 
 It is for telling causes and for laying out scripts; what counts is what cobench itself answers.
 """
-from . import values
-from .device import BITS, object_name
+from .data_types import are_unlike, type_name
+from .device import object_name
 from .pdo_objects import EVENT, INHIBIT, START
 from .planned_message import DUMMIES, Cause, Planned, first_sink, numbers_text, why_no_dummy
 from .vendor_pdo import pdo_objects
@@ -95,9 +95,9 @@ class Plan:
         return self.devices[node].entries.get(key)
 
     def _width(self, node, key):
-        """The bits of an entry of BOOLEAN or an integer type, else None."""
+        """The bits of an entry of BOOLEAN, an integer or a REAL type, else None."""
         entry = self._entry(node, key)
-        return BITS.get(entry.kind) if entry else None
+        return entry.bits if entry else None
 
     def _described(self, node, key):
         entry = self._entry(node, key)
@@ -163,12 +163,12 @@ class Plan:
             return f"{what}: {self._name(node)} has no {object_name(key)}"
         if entry.is_sent() if direction == TPDO else entry.is_taken():
             return None
-        why = (f"its data type is {values.type_name(entry.kind)}" if entry.kind not in BITS
+        why = (f"its data type is {type_name(entry.kind)}" if entry.bits is None
                else "its PDOMapping is 0" if not entry.mappable else f"its access is {entry.access}")
         pdo = "a TPDO" if direction == TPDO else "an RPDO"
         return f"{what}: {self._described(node, key)} of {self._name(node)} can't be in {pdo}, as {why}"
 
-    # E09: widths.
+    # E09: widths, and types where one is a REAL.
 
     def _mismatched(self, planned):
         sources, causes = dict(planned.sources), []
@@ -178,12 +178,21 @@ class Plan:
                 there = numbers_text(sorted(sources))
                 causes.append(Cause(f"sink {position} of {self._name(node)} has no source; there are {there}", node, part))
                 continue
-            sent, taken = self._width(planned.message.node, sources[position]), self._width(node, key)
-            if sent and taken and sent != taken:
+            taken, sent = self._unlike(node, key, planned.message.node, sources[position])
+            if taken != sent:
                 source = self._described(planned.message.node, sources[position])
-                causes.append(Cause(f"sink {position} of {self._name(node)}, {self._described(node, key)}, has {taken} bits, "
-                                    f"and source {position}, {source}, has {sent}", node, part))
+                causes.append(Cause(f"sink {position} of {self._name(node)}, {self._described(node, key)}, {taken}, "
+                                    f"and source {position}, {source}, {sent}", node, part))
         return causes
+
+    def _unlike(self, node, key, sender, source):
+        """By what a sink and its source can't meet, in words each; the same of both where they can."""
+        taken, sent = self._entry(node, key), self._entry(sender, source)
+        if not taken or not sent or not taken.is_modelled or not sent.is_modelled:
+            return "", ""
+        if taken.bits and sent.bits and taken.bits != sent.bits:
+            return f"has {taken.bits} bits", f"has {sent.bits}"
+        return (f"is {type_name(taken.kind)}", f"is {type_name(sent.kind)}") if are_unlike(taken.kind, sent.kind) else ("", "")
 
     # E10, E11: the RPDOs of the consumers and what they map.
 

@@ -1,12 +1,12 @@
 """What is other in the data sheets of two networks."""
-from . import values
+from .data_types import type_name
 from .device import Device, object_name
 
 MOST_LINES = 20
 
 # What a data sheet says of an entry.
 SAID = {
-    "name": lambda entry: entry.name, "data type": lambda entry: values.type_name(entry.kind),
+    "name": lambda entry: entry.name, "data type": lambda entry: type_name(entry.kind),
     "access": lambda entry: entry.access, "default": lambda entry: entry.default, "low limit": lambda entry: entry.low,
     "high limit": lambda entry: entry.high, "PDO mapping": lambda entry: entry.mappable, "value": lambda entry: entry.value,
 }
@@ -19,7 +19,8 @@ def sheets(old, new):
         if name not in one or name not in two:
             lines.append(f"{'+' if name in two else '-'} {name}, of {len(one.get(name) or two.get(name) or [])} lines")
         elif one[name] != two[name]:
-            found = sheet(Device(one[name]), Device(two[name])) or ["other lines, which give no entry"]
+            sheets_of = Device(one[name], old.project.version), Device(two[name], new.project.version)
+            found = sheet(*sheets_of) or ["other lines, which give no entry"]
             more = len(found) - MOST_LINES
             found = found[:MOST_LINES] + ([f"and {more} more"] if more > 0 else [])
             lines += [name] + [f"  {line}" for line in found]

@@ -2,7 +2,8 @@
 import re
 
 from . import ini, values
-from .device import ACCESSES, ARRAY, BITS, DOMAIN, RECORD, VAR, object_name, read_number
+from .data_types import BITS, is_modelled
+from .device import ACCESSES, ARRAY, DOMAIN, RECORD, VAR, object_name, read_number
 from .findings import Finding
 from .report import counted
 from .safe_text import shortened
@@ -37,7 +38,7 @@ def object_text(key):
 
 def faults_of(device, lines):
     """The faults of a data sheet, by line."""
-    faults = [fault for key, keys in described(device) for fault in of_entry(key, keys)]
+    faults = [fault for key, keys in described(device) for fault in of_entry(key, keys, device.version)]
     faults += sub_numbers(device) + pdo_objects(device) + names(device) + reserved(device) + lists(device)
     return sorted(faults + sections(lines), key=lambda fault: (fault.line, fault.kind))
 
@@ -58,8 +59,8 @@ def object_type(keys):
 
 # One entry.
 
-def of_entry(key, keys):
-    """The faults of the section of an entry."""
+def of_entry(key, keys, version):
+    """The faults of the section of an entry, in scripts of a version."""
     faults = []
 
     def fault(name, kind, text):
@@ -78,16 +79,16 @@ def of_entry(key, keys):
     elif kind and read_number(kind) is None:
         fault("datatype", "type", f'DataType "{shortened(kind)}" is no number')
     number = read_number(kind)
-    if number in BITS:
+    if number in BITS and is_modelled(number, version):
         for name, what, text in limits(number, keys):
             fault(name, what, text)
     return faults
 
 
 def limits(kind, keys):
-    """What is wrong with the limits and the default of an entry of BOOLEAN or an integer type: key, kind and words."""
+    """What is wrong with the limits and the default of an entry of BOOLEAN, an integer or a REAL type: key, kind and words."""
     texts = {name: keys.get(name, "") for name in ("lowlimit", "highlimit", "defaultvalue")}
-    low, high, default = (values.number_of(kind, text, NODE) if text else None for text in texts.values())
+    low, high, default = (values.measure_of(kind, text, NODE) if text else None for text in texts.values())
     if low is not None and high is not None and high < low:
         high_text, low_text = shortened(texts["highlimit"]), shortened(texts["lowlimit"])
         yield "highlimit", "limits", f"HighLimit {high_text} is below LowLimit {low_text}"

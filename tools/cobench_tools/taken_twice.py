@@ -1,5 +1,5 @@
 """RPDOs of one node that take one identifier: of a script, and of a file where a script of it has that otherwise."""
-from .device import BITS
+from .data_types import BITS
 from .findings import Finding
 from .wiring import COMMUNICATION, RPDO, Node
 

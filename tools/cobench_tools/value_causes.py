@@ -1,8 +1,8 @@
 """Why a value isn't written, is none, or is of no use: for each diagnostic that is about no message the line, and the cause."""
 import re
 
-from . import ini, values
-from .device import BITS, VISIBLE_STRING
+from . import ini, reals, values
+from .data_types import NUMBERS, REALS, VISIBLE_STRING, type_name
 from .digits import hexadecimal
 from .safe_text import shortened
 from .wiring import COMMUNICATION, EXTENDED, MOST_PDOS, OFF, TPDO
@@ -13,7 +13,9 @@ EXPLAINED = "E01", "E02", "E03", "E04", "E15", "E16", "W19", "W20", "W21"
 
 def why_no_value(kind, text, node):
     """Why a text is no value of a data type at a node."""
-    if kind not in BITS:
+    if kind in REALS:
+        return why_no_real(kind, text)
+    if kind not in NUMBERS:
         too_long = kind == VISIBLE_STRING or re.fullmatch("([0-9A-Fa-f]{2})*", text)
         return f"a value has at most {values.LONGEST} bytes" if too_long else "its bytes are pairs of hexadecimal digits"
     low, high = values.range_of(kind)
@@ -24,6 +26,13 @@ def why_no_value(kind, text, node):
     if re.fullmatch("[0-9A-Fa-f]+[hH]", text):
         return f"a hexadecimal number is written 0x{text[:-1]}"
     return "a number is decimal, 0x and hexadecimal, or $NODEID+number"
+
+
+def why_no_real(kind, text):
+    """Why a text is no value of REAL32 or REAL64."""
+    if reals.DECIMAL.fullmatch(text):
+        return f"the numbers of that type are up to {reals.greatest_text(kind)}, and down to -{reals.greatest_text(kind)}"
+    return "a number is decimal, with a point and a power of ten or without, as 2.5, -4 and 1e-3"
 
 
 def subs_text(subs):
@@ -76,11 +85,11 @@ class ValueCauses:
             return self.why_no_entry(node, key)
         entry = self.evidence.device(node).entries[key]
         if code == "E16":
-            return f"its type isn't modelled: {values.type_name(entry.kind)}"
+            return f"its type isn't modelled: {type_name(entry.kind)}"
         if code == "E04":
             return f"it can't be written (AccessType {entry.access})"
         if code == "E02":
-            return f"\"{shortened(text)}\" is no {values.type_name(entry.kind)}: {why_no_value(entry.kind, text, node)}"
+            return f"\"{shortened(text)}\" is no {type_name(entry.kind)}: {why_no_value(entry.kind, text, node)}"
         return self.why_beyond(node, entry, text)
 
     def why_no_entry(self, node, key):
@@ -104,8 +113,8 @@ class ValueCauses:
     def default(self, node, key):
         entry = self.evidence.device(node).entries[key]
         text = entry.default
-        why = f"DefaultValue \"{shortened(text)}\" is no {values.type_name(entry.kind)}: {why_no_value(entry.kind, text, node)}"
-        taken = "0" if entry.kind in BITS else "no bytes"
+        why = f"DefaultValue \"{shortened(text)}\" is no {type_name(entry.kind)}: {why_no_value(entry.kind, text, node)}"
+        taken = "0" if entry.bits else "no bytes"
         place = self.evidence.sheet_place(node, entry.line_of("defaultvalue"))
         return place, self.evidence.node_name(node), f"{self.evidence.entry_name(node, key)}: {why}; {taken} is taken for it"
 

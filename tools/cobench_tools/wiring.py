@@ -7,7 +7,8 @@ import bisect
 import functools
 
 from . import concise, tool, values
-from .device import BITS, Device
+from .data_types import BITS
+from .device import Device
 
 TPDO, RPDO = "TPDO", "RPDO"
 COMMUNICATION = {TPDO: 0x17FF, RPDO: 0x13FF}
@@ -150,7 +151,7 @@ class Node:
         key, bits = key_and_bits(item)
         entry = self.device.entries.get(key)
         if entry and (entry.is_sent() if direction == TPDO else entry.is_taken()):
-            return Part(start, bits, key, entry) if bits == BITS[entry.kind] else None
+            return Part(start, bits, key, entry) if bits == entry.bits else None
         if direction == RPDO and key[1] == 0 and self.device.allows_dummy(key[0]) and bits == BITS[key[0]]:
             return Part(start, bits, key, None)
         return None
@@ -206,7 +207,7 @@ class Wiring:
 
 def nodes_of(answered):
     """The nodes at the end of a session, by number."""
-    devices = {name: Device(lines) for name, lines in answered.project.texts.items()}
+    devices = {name: Device(lines, answered.project.version) for name, lines in answered.project.texts.items()}
     return {number: Node(number, devices[eds], concise.values_of(answered.lines("cdcf", number)))
             for number, (_, eds) in answered.project.nodes.items()}
 

@@ -8,7 +8,7 @@ import signal
 import struct
 import time
 
-from cobench_tools import values
+from cobench_tools import data_types, values
 from cobench_tools.device import Device as Sheet
 
 PRODUCER = 0x1017, 0
@@ -30,7 +30,7 @@ class Entry:
         self.data = self.default
 
     def number(self, data):
-        return int.from_bytes(data, "little", signed=self.kind in values.SIGNED)
+        return int.from_bytes(data, "little", signed=self.kind in data_types.SIGNED)
 
 
 class Device:
@@ -47,7 +47,7 @@ class Device:
 
     def __init__(self, number, sheet, does_blocks=True, own=()):
         self.number, self.does_blocks = number, does_blocks
-        self.entries = {key: Entry(entry, number) for key, entry in Sheet(sheet).entries.items()}
+        self.entries = {key: Entry(entry, number) for key, entry in Sheet(sheet, data_types.WHOLE).entries.items()}
         for key, data in dict(own).items():
             self.entries[key].default = self.entries[key].data = data
         self.state, self.faults, self.requests, self.starts = PRE_OPERATIONAL, {}, 0, []
@@ -128,7 +128,7 @@ class Device:
             raise Abort(0x06090011 if any(index == key[0] for index, _ in self.entries) else 0x06020000)
         if entry.access in ("ro", "const"):
             raise Abort(0x06010002)
-        if entry.kind in values.BITS and len(data) != (values.BITS[entry.kind] + 7) // 8:
+        if entry.kind in data_types.BITS and len(data) != (data_types.BITS[entry.kind] + 7) // 8:
             raise Abort(0x06070010)
         if entry.low is not None and entry.number(data) < entry.low:
             raise Abort(0x06090032)

@@ -1,23 +1,33 @@
-"""`dbc`: by a small reader of DBCs, and by python3-canmatrix where that is installed."""
+"""`dbc`: by a small strict reader of DBCs, and by python3-canmatrix where that is installed."""
 import json
 import re
 import shutil
+import struct
 import subprocess
 import sys
 
 import networks
 from helper import BINARY, Skipped, example, is_refused, put, recorded, run
+from scales import scales
 from test_matrix import matrix
 
 MESSAGE = re.compile(r"BO_ (\d+) ([A-Za-z_][A-Za-z0-9_]{0,31}): ([0-8]) ([A-Za-z_][A-Za-z0-9_]{0,31})")
-SIGNAL = re.compile(r' SG_ ([A-Za-z_][A-Za-z0-9_]{0,31}) : (\d+)\|(\d+)@1([+-]) \(1,0\) \[(-?\d+)\|(-?\d+)\] "" ([A-Za-z0-9_,]+)')
+SIGNAL = re.compile(r' SG_ ([A-Za-z_][A-Za-z0-9_]{0,31}) : (\d+)\|(\d+)@1([+-]) \(1,0\) \[([-+.0-9e]+)\|([-+.0-9e]+)\] "" ([A-Za-z0-9_,]+)')
+VALUE_TYPE = re.compile(r"SIG_VALTYPE_ (\d+) ([A-Za-z_][A-Za-z0-9_]{0,31}) : ([12]);")
+NAME, TEXT, WHOLE = "[A-Za-z_][A-Za-z0-9_]{0,31}", '"[^"\\\\\r\n]*"', r"\d+"
+
+# The lines of a DBC in the order in which its grammar has them; those of one place stand in any order.
+GRAMMAR = tuple(map(re.compile, (
+    'VERSION ""', "NS_ :", r"\t(CM_|BA_DEF_|BA_|BA_DEF_DEF_|SIG_VALTYPE_)", "BS_:", f"BU_:( {NAME})*", f"({MESSAGE.pattern})|({SIGNAL.pattern})",
+    f"CM_ (BU_ {NAME}|BO_ {WHOLE}|SG_ {WHOLE} {NAME}) {TEXT};", f"BA_DEF_ (BU_|BO_) {TEXT} INT {WHOLE} {WHOLE};", f"BA_DEF_DEF_ {TEXT} {WHOLE};",
+    f"BA_ {TEXT} (BU_ {NAME}|BO_ {WHOLE}) {WHOLE};", VALUE_TYPE.pattern)))
 
 # Prints what canmatrix reads: of each message its number, name, size and senders, and its signals; and its complaints.
 CANMATRIX = """
 import json, sys, canmatrix.formats
 matrix = canmatrix.formats.loadp_flat(sys.argv[1])
-signals = lambda frame: [[each.name, each.start_bit, each.size, each.is_little_endian, each.is_signed, int(each.min),
-                          int(each.max), sorted(each.receivers)] for each in frame.signals]
+signals = lambda frame: [[each.name, each.start_bit, each.size, each.is_little_endian, each.is_signed, float(each.min),
+                          float(each.max), sorted(each.receivers)] + [each.size] * each.is_float for each in frame.signals]
 frames = [[frame.arbitration_id.id, frame.name, frame.size, frame.transmitters, signals(frame)] for frame in matrix.frames]
 print(json.dumps([frames, [str(each) for each in matrix.load_errors]]))
 """
@@ -28,7 +38,7 @@ def dbc(given):
 
 
 def read_dbc(text):
-    """The messages of a DBC, as CANMATRIX prints them; each line that begins as one has to be one."""
+    """The messages of a DBC, as CANMATRIX prints them, behind a signal that is a REAL how wide that is; each line that begins as one has to be one."""
     frames = []
     for line in text.splitlines():
         if line.startswith("BO_ "):
@@ -37,8 +47,17 @@ def read_dbc(text):
         elif line.startswith(" SG_ "):
             name, start, bits, sign, low, high, receivers = SIGNAL.fullmatch(line).groups()
             takers = [] if receivers == "Vector__XXX" else sorted(receivers.split(","))
-            frames[-1][4].append([name, int(start), int(bits), True, sign == "-", int(low), int(high), takers])
+            frames[-1][4].append([name, int(start), int(bits), True, sign == "-", float(low), float(high), takers])
+    for number, name, kind in VALUE_TYPE.findall(text):
+        signals = [each for frame in frames if frame[0] == int(number) for each in frame[4] if each[0] == name]
+        assert len(signals) == 1, (number, name)
+        signals[0].append(32 * int(kind))
     return frames
+
+
+def places_in_grammar(text):
+    """The place in the grammar of each line that isn't empty."""
+    return [next(place for place, form in enumerate(GRAMMAR) if form.fullmatch(line)) for line in text.splitlines() if line]
 
 
 def test_dbc_of_the_example():
@@ -73,6 +92,26 @@ def test_dbc_gives_each_name_once():
     assert 'CM_ SG_ 389 K_lte_an "2000h:00 K\xe4lte \'an\' \'";'.encode("cp1252") in output, output
 
 
+def test_dbc_has_reals_as_signals_of_ieee_754():
+    """A REAL32 with the limits of its data sheet, a REAL64 with those of its type, and integers of 24 and 40 bits with those of theirs."""
+    status, output, faults = dbc(scales())
+    greatest = struct.unpack("<d", struct.pack("<Q", 0x7FEFFFFFFFFFFFFF))[0]
+    assert status == 0 and not faults and read_dbc(output.decode("cp1252")) == [
+        [0x185, "weight", 7, ["scale"], [["Weight_kg", 0, 32, True, True, -10, 600.5, ["panel"], 32],
+                                        ["Turns", 32, 24, True, True, -2**23, 2**23 - 1, ["panel"]]]],
+        [0x285, "volume", 8, ["scale"], [["Volume", 0, 64, True, True, -greatest, greatest, ["panel"], 64]]],
+        [0x385, "count", 5, ["scale"], [["Count", 0, 40, True, False, 0, 2**40 - 1, []]]]], output
+    assert output.endswith(b"SIG_VALTYPE_ 389 Weight_kg : 1;\nSIG_VALTYPE_ 645 Volume : 2;\n"), output
+
+
+def test_each_line_of_a_dbc_is_one_of_its_grammar():
+    for given in (example("servo_axes.txt"), example("io_modules.txt"), scales()):
+        text = dbc(given)[1].decode("cp1252")
+        places = places_in_grammar(text)
+        assert places == sorted(places) and set(range(10)) <= set(places), given
+        assert ("SIG_VALTYPE_" in text) == (given == "scales.txt"), given
+
+
 def python_with_canmatrix():
     """A Python that has canmatrix."""
     for python in (sys.executable, shutil.which("python3", path="/usr/bin")):
@@ -84,7 +123,7 @@ def python_with_canmatrix():
 
 def test_canmatrix_reads_the_same():
     python = python_with_canmatrix()
-    for given in [example("servo_axes.txt"), example("io_modules.txt")] + [put(f"{seed}.txt", networks.network(seed)) for seed in (4, 13, 21)]:
+    for given in [example("servo_axes.txt"), example("io_modules.txt"), scales()] + [put(f"{seed}.txt", networks.network(seed)) for seed in (4, 13, 21)]:
         put("network.dbc", dbc(given)[1])
         done = subprocess.run([python, "-c", CANMATRIX, "network.dbc"], stdout=subprocess.PIPE, stderr=subprocess.DEVNULL, check=True)
         frames, complaints = json.loads(done.stdout)

@@ -19,7 +19,8 @@ PAGES = [os.path.join(folder, name) for folder in FOLDERS for name in os.listdir
 
 def test_the_stored_sessions_have_the_examples_with_the_kept_replies():
     for name, title in (("first_network", b"a network of one node with a heartbeat"), ("io_modules", b"two I/O modules and their"),
-                        ("servo_axes", b"two servo drives and their"), ("turntable", b"a turntable of version 3")):
+                        ("servo_axes", b"two servo drives and their"), ("turntable", b"a turntable of version 3"),
+                        ("pressure_line", b"two pressure transmitters and a process")):
         is_fine(run("expand", example(name + ".txt")), session(title))
         answers = re.sub(rb"(?m)^> .*\n", b"", session(title, "stdout"))
         assert answers == file(EXAMPLES, name + ".replies.txt"), name
@@ -123,6 +124,14 @@ def test_the_trace_on_the_page_is_that_of_the_example():
     assert len(found) > 10
     for line, said in found:
         assert line in replies and said in explained, line
+
+
+def test_the_numbers_with_a_fraction_on_the_page_are_those_of_the_example():
+    """Lines of blocks are commands of the script, or lines of its replies."""
+    part = page("docs", "first_network.md").partition("\n## Numbers with a fraction\n")[2]
+    known = file(EXAMPLES, "pressure_line.txt") + file(EXAMPLES, "pressure_line.replies.txt")
+    lines = [line.strip() for block in blocks_of(part) for line in block.splitlines()]
+    assert len(lines) == 16 and set(lines) - {".."} <= set(known.decode().splitlines()), set(lines) - set(known.decode().splitlines())
 
 
 def test_the_page_has_the_refusals_of_the_example():

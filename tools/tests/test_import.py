@@ -1,8 +1,10 @@
 """`import`: files as other tools write them, and the round trip: exported files imported give the same concise DCFs."""
 import os
 import re
+import struct
 
 import networks
+from cobench_tools.concise import values_of
 from helper import (BINARY, answers, example, in_parallel, is_fine, is_refused, kept, kept_at, put, real, recorded, recorded_replies,
                     run)
 
@@ -204,18 +206,71 @@ def test_import_says_nothing_of_types_that_come_to_the_same():
 def test_import_keeps_what_it_does_not_model_in_the_data_sheet():
     for node, gain in ((1, b"2.5"), (2, b"2.5"), (3, b"3.5"), (4, b"")):
         value = b"ParameterValue=" + gain + b"\n" if gain else b""
-        put(f"{node}.dcf", b"[2000]\nDataType=8\nDefaultValue=1.5\n%s[2001]\nDataType=6\nParameterValue=%d\n"
+        put(f"{node}.dcf", b"[2000]\nDataType=0x0B\nDefaultValue=1.5\n%s[2001]\nDataType=6\nParameterValue=%d\n"
             b"[DeviceComissioning]\nNodeID=%d\nNodeName=n%d\n" % (value, node, node, node))
     status, output, faults = run("import", "1.dcf", "2.dcf", "3.dcf", "4.dcf")
     assert status == 0 and output.count(b"\neds ") == 3 and output.count(b"ParameterValue=2.5") == 1, output
     assert b"\nnode 1 n1 n1\n" in output and b"\nnode 2 n2 n1\n" in output and b"\nnode 3 n3 n3\n" in output
     assert faults.splitlines() == [
-        f"{node}.dcf:4: warning: kept in the data sheet, and so in the DCF (E16), but not written, as of REAL32, a data type that cobench "
-        "doesn't write: 2000h:00 (line 4)" for node in (1, 2, 3)], faults
+        f"{node}.dcf:4: warning: kept in the data sheet, and so in the DCF (E16), but not written, as of UNICODE_STRING, a data type that "
+        "cobench doesn't write: 2000h:00 (line 4)" for node in (1, 2, 3)], faults
     put("made.txt", output)
     put("asked.txt", output + b"dcf 3\n")
     lines = recorded_replies(run("expand", "asked.txt")[1]).splitlines()
     assert b"ParameterValue=3.5" in lines and b"ParameterValue=0x0003" in lines, lines
+
+
+# Values of types that version 3 has besides: each with its bytes, as written in a concise DCF.
+VALUES_OF_VERSION_3 = (("0x08", "2.5", struct.pack("<f", 2.5)), ("8", "-1e-3", struct.pack("<f", -0.001)), ("0x11", "0.1", struct.pack("<d", 0.1)),
+                       ("0x10", "-3", b"\xFD\xFF\xFF"), ("0x16", "0x123456", b"\x56\x34\x12"), ("0x1A", "$NODEID", b"\x05\0\0\0\0\0\0"))
+
+
+def dcf_of_version_3(values=VALUES_OF_VERSION_3, more=""):
+    """Writes the DCF of node 5 with these values at 2000h and on."""
+    sections = "".join(f"[{0x2000 + place:X}]\nDataType={kind}\nParameterValue={text}\n" for place, (kind, text, _) in enumerate(values))
+    return put("5.dcf", f"{sections}{more}[DeviceComissioning]\nNodeID=5\nNodeName=scale\n".encode())
+
+
+def test_import_sets_values_of_version_3():
+    """Their texts stand in `param`, which cobench reads back to the same bytes, and nothing is to be warned of."""
+    status, output, faults = run("import", dcf_of_version_3())
+    params = "".join(f"param 5 {0x2000 + place:X} 0 {text}\n" for place, (_, text, _) in enumerate(VALUES_OF_VERSION_3)).encode()
+    assert (status, faults) == (0, "") and b"\nversion 3\n" in output and output.endswith(params), (output, faults)
+    asked = answers(recorded(), output, b"cdcf 5\n")[0]
+    found = values_of(asked)
+    assert [found[0x2000 + place, 0] for place in range(len(VALUES_OF_VERSION_3))] == [data for _, _, data in VALUES_OF_VERSION_3], found
+
+
+def test_import_has_version_3_only_where_less_is_lost_so():
+    """A number of another tool's spelling is no value: then the data sheet keeps it, as in version 1."""
+    for text in ("0x40200000", "2,5", "NaN", "1e39"):
+        status, output, faults = run("import", dcf_of_version_3([("8", text, None)]))
+        assert status == 0 and b"version" not in output and f"ParameterValue={text}\n".encode() in output, output
+        assert faults.startswith("5.dcf:3: warning: kept in the data sheet, and so in the DCF (E16), but not written, as of REAL32"), faults
+    status, output, faults = run("import", dcf_of_version_3([("8", "2.5", None), ("8", "2,5", None)]))
+    assert status == 0 and b"\nversion 3\n" in output and b"\nparam 5 2000 0 2.5\n" in output, output
+    assert faults == "5.dcf:6: warning: not taken over, as no value of REAL32: 2001h:00 (line 6)\n", faults
+
+
+def test_import_compares_values_of_version_3_with_their_defaults():
+    """2.50 is the default 2.5, and -0 isn't 0; limits of a REAL aren't asked."""
+    more = ("[2100]\nDataType=8\nDefaultValue=2.5\nParameterValue=2.50\n[2101]\nDataType=8\nDefaultValue=0\nParameterValue=-0\n"
+            "[2102]\nDataType=8\nHighLimit=1.5\nParameterValue=2\n[2103]\nDataType=0x10\nHighLimit=8388606\nParameterValue=8388607\n")
+    put("5.dcf", f"; \n{more}[DeviceComissioning]\nNodeID=5\nNodeName=scale\n".encode())
+    status, output, faults = run("import", "5.dcf")
+    assert status == 0 and output.endswith(b"\nnode 5 scale scale\nparam 5 2101 0 -0\nparam 5 2102 0 2\n"), output
+    assert faults.splitlines() == ["5.dcf:5: note: no parameter is needed for the default's value (--all makes one): 2100h:00 (line 5)",
+                                   "5.dcf:17: warning: not taken over, as beyond the limits of the data sheet: 2103h:00 (line 17)"], faults
+
+
+def test_import_makes_messages_of_version_3():
+    """A TPDO that maps a REAL32 and an UNSIGNED24 has no message in version 2."""
+    pdo = ("[1800sub1]\nDataType=7\nDefaultValue=0x80000000\nParameterValue=0x40000185\n[1800sub2]\nDataType=5\nDefaultValue=255\n[1A00sub0]\nDataType=5\n"
+           "ParameterValue=2\n[1A00sub1]\nDataType=7\nParameterValue=0x21000020\n[1A00sub2]\nDataType=7\nParameterValue=0x21010018\n"
+           "[2100]\nDataType=8\nPDOMapping=1\nAccessType=ro\n[2101]\nDataType=0x16\nPDOMapping=1\nAccessType=ro\n")
+    status, output, faults = run("import", dcf_of_version_3((), pdo))
+    assert (status, faults) == (0, "") and b"\nversion 3\n" in output, (output, faults)
+    assert output.endswith(b"\nmessage scale_1 5 1 255 0 0 185\nsource scale_1 1 2100 0\nsource scale_1 2 2101 0\n"), output
 
 
 def test_import_names_what_it_drops_of_the_commissioning():

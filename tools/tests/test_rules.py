@@ -9,7 +9,7 @@ import sys
 from helper import ROOT, put, recorded
 from odd_scripts import odd_script
 
-from cobench_tools import concise, forms, ini, limits, pdo_values, script, tool, values
+from cobench_tools import concise, data_types, forms, ini, limits, pdo_values, script, tool, values
 from cobench_tools import session as sessions
 from cobench_tools.evidence import Evidence
 from cobench_tools.pdo_writes import writes_of
@@ -102,13 +102,24 @@ TEXTS = ("", "0", "1", "2", "-1", "-0", "127", "128", "255", "256", "0x7F", "0x8
          "18446744073709551616", "9" * 40, "0" * 60 + "7", "$NODEID", "$nodeid+1", "1 + $NODEID", "$NODEID+0x80", "$NODEID+-1", "$NODEID + $NODEID",
          "$NODEID+250", "-$NODEID", "1_0", "+5", "0x", "1 2", "5h", "TRUE", "1e2", "1.0", "00 11", "0011", "001", "aF", "text with blanks")
 KINDS = (1, 2, 3, 4, 0x15, 5, 6, 7, 0x1B, 9, 0x0A, 0x0F, 8)
+# Of version 3: numbers at the ends of integers of 24 to 56 bits; of REALs spellings, ties and what lies beside them, least and greatest.
+KINDS_OF_VERSION_3 = (0x10, 0x12, 0x13, 0x14, 0x16, 0x18, 0x19, 0x1A, 0x08, 0x11)
+TEXTS_OF_VERSION_3 = (*(str(number) for bits in (23, 24, 39, 40, 47, 48, 55, 56) for number in (2**bits - 1, 2**bits, -2**bits, -2**bits - 1)),
+                      *(f"0x{number:X}" for bits in (24, 40, 48, 56) for number in (2**bits - 1, 2**bits, 2**(bits - 1))),
+                      "2.5", "-2.5", "+.5", "5.", ".", "-", "e5", "1e", "1e+", "1E-3", "1e+07", "0.1", "-0.0", "1e-400", "-1e-400", "1e400", "0e9999999999999999999",
+                      "1e9999999999999999999", "inf", "NaN", "1,5", "1.2.3", "--1", "16777217", "16777217.00000000000000000000000000000001", "16777219",
+                      "3.4028235e38", "340282356779733661637539395458142568447", "340282356779733661637539395458142568448", "1.401298464324817e-45",
+                      "7.006492321624085e-46", "7.0064923216240853607e-46", "7.0064923216240853608e-46", "1.1754943e-38", "2.2250738585072011e-308", "4.9406564584124654e-324",
+                      "2.4703282292062327e-324", "2.4703282292062328e-324", "1.7976931348623157e308", "1.7976931348623158e308", "1.7976931348623159e308",
+                      "9007199254740993", "9007199254740993.0000000000000000001", "0" * 90 + "1.5", "0." + "0" * 90 + "15e91")
 
 
-def test_values_are_those_of_cobench():
-    """values.py and device.py: the bytes that the concise DCF has of each text that is a value of its type, and no others."""
-    cases = [(0x2000 + place, kind, text) for place, (kind, text) in enumerate((kind, text) for kind in KINDS for text in TEXTS if text)]
+def values_apart(version, kinds, texts):
+    """Where the values of these texts aren't those that the concise DCF has, each type with each text; and how many are values."""
+    cases = [(0x2000 + place, kind, text) for place, (kind, text) in enumerate((kind, text) for kind in kinds for text in texts if text)]
     sheet = "".join(f"[{index:04X}]\nDataType={kind:#x}\nAccessType=rw\n" for index, kind, _ in cases).encode()
-    text = b"eds d %d\n%snode 5 pump d\n" % (sheet.count(b"\n"), sheet)
+    text = b"version %d\n" % version if version > 1 else b""
+    text += b"eds d %d\n%snode 5 pump d\n" % (sheet.count(b"\n"), sheet)
     text += "".join(f"param 5 {index:04X} 0 {value}\n" for index, _, value in cases).encode()
     put("net.txt", text)
     made = sessions.run("net.txt", recorded(), ("cdcf", "diag"))
@@ -116,9 +127,22 @@ def test_values_are_those_of_cobench():
     written = {key[0]: data for key, data in concise.values_of(made.lines("cdcf", 5)).items() if key[1] == 0 and key[0] >= 0x2000}
     wrong = []
     for index, kind, value in cases:
-        ours = values.data_of(kind, value, 5) if kind in values.MODELLED else None
+        ours = values.data_of(kind, value, 5) if data_types.is_modelled(kind, version) else None
         wrong += [(hex(kind), value, ours, written.get(index))] if ours != written.get(index) else []
-    assert not wrong and len(written) > 100, (len(written), wrong[:8])
+    return wrong, len(written)
+
+
+def test_values_are_those_of_cobench():
+    """values.py and device.py: the bytes that the concise DCF has of each text that is a value of its type, and no others."""
+    wrong, count = values_apart(1, KINDS, TEXTS)
+    assert not wrong and count > 100, (count, wrong[:8])
+
+
+def test_values_of_version_3_are_those_of_cobench():
+    """The same of the types that version 3 has besides; in version 2 none of these is written."""
+    wrong, count = values_apart(3, KINDS_OF_VERSION_3, TEXTS + TEXTS_OF_VERSION_3)
+    assert not wrong and count > 300, (count, wrong[:8])
+    assert values_apart(2, KINDS_OF_VERSION_3, ("1", "2.5")) == ([], 0)
 
 
 LINES = (b"", b";x", b"[a]", b"[a] behind", b"[]", b"[ ] = 5", b"[=x", b"x=1", b"X = 2", b"=3", b" = 4", b"key", b"[b", b"[b]\r", b"x=1\r", b"\t[A]\t",
@@ -140,12 +164,12 @@ def edits_of(text):
     return b"\n".join(line for line in text.split(b"\n") if not re.match(b"(trace|c?dcf|project|diag|horizon)", line))
 
 
-def test_pdos_as_vendors_make_them_are_as_cobench_has_them():
-    """plan.py and vendor_pdo.py: `diag` has the faults that the plan finds, and `cdcf` the writes that it plans for PDOs, in
-    generated scripts of version 3."""
+def plans_of_version_3(kind, seeds):
+    """How many faults `diag` has in generated scripts of a kind, all of which the plan finds, and how many writes of PDOs `cdcf` has,
+    all of which it plans."""
     faults = writes = 0
-    for seed in range(16):
-        put("net.txt", edits_of(generators.script("vendors", seed)))
+    for seed in seeds:
+        put("net.txt", edits_of(generators.script(kind, seed)))
         made = sessions.run("net.txt", recorded(), ("diag", "cdcf"))
         plan = Evidence(made).plan
         told = sorted(tool.shown(line) for line in made.lines("diag") if re.match(b"E.. message", line))
@@ -158,6 +182,18 @@ def test_pdos_as_vendors_make_them_are_as_cobench_has_them():
             assert planned == written, (seed, node, planned, written)
             writes += len(written)
         faults += len(told)
+    return faults, writes
+
+
+def test_pdos_as_vendors_make_them_are_as_cobench_has_them():
+    """plan.py and vendor_pdo.py, in generated scripts of version 3."""
+    faults, writes = plans_of_version_3("vendors", range(16))
+    assert faults > 10 and writes > 100, (faults, writes)
+
+
+def test_pdos_of_all_data_types_are_as_cobench_has_them():
+    """The same with integers of 24 to 56 bits and REALs among the sources and sinks; in scripts without a controller."""
+    faults, writes = plans_of_version_3("version3", (1, 2, 3, 16, 17, 18, 26, 27, 29, 37, 38))
     assert faults > 10 and writes > 100, (faults, writes)
 
 

@@ -1,10 +1,12 @@
 """`timeline` in a browser: where things stand, and what wheel, mouse, fingers and keys do. Skipped without Chromium."""
 import contextlib
+import math
 import random
 import re
+import struct
 
 from browser import Browser
-from cobench_tools import device, wire_bits
+from cobench_tools import data_types, device, wire_bits
 from helper import example, put, run
 
 CTRL, SHIFT = 2, 8
@@ -333,13 +335,17 @@ def test_the_key_of_the_help_opens_it():
 
 def test_the_page_reads_values_as_explain_does():
     chance = random.Random(62)
-    kinds = {1: "bit", 2: "signed", 3: "signed", 4: "signed", 0x15: "signed", 5: "unsigned", 6: "unsigned", 7: "unsigned", 0x1B: "unsigned", 0: "unsigned"}
+    kinds = {0: "unsigned", 1: "bit", **dict.fromkeys(data_types.SIGNED, "signed"), **dict.fromkeys(data_types.UNSIGNED, "unsigned"), **dict.fromkeys(data_types.REALS, "real")}
     cases = []
     for _ in range(400):
         data, kind = bytes(chance.choices((0, 0x7F, 0x80, 0xFF, chance.randrange(256)), k=8)), chance.choice(list(kinds))
-        bits = device.BITS.get(kind) or chance.randint(1, 64)
+        bits = data_types.BITS.get(kind) or chance.randint(1, 64)
         start = chance.randint(0, 64 - bits)
         cases.append((data.hex(), start, bits, kinds[kind], device.value_at(data, start, bits, kind)))
+    for number in (0.0, -0.0, 0.1, 2.5, 1e15, 1e16, -1e21, 1e-4, 1e-5, 2.0**-96, 2.0**87, 2.0**90, -2.0**90, 1e-45, math.inf, -math.inf, math.nan):
+        for kind, code in ((data_types.REAL32, "<f"), (data_types.REAL64, "<d")):
+            data, bits = struct.pack(code, number), data_types.REALS[kind]
+            cases.append((data.hex(), 0, bits, "real", device.value_at(data, 0, bits, kind)))
     with opened(servo()) as page:
         found = page.value(f"{[list(case) for case in cases]}.map(([data, start, bits, form]) => valueAt(littleEndian(data), start, bits, form))")
         for case, value in zip(cases, found):

@@ -29,7 +29,7 @@ fn show_device(rt: &HostRuntime, device: &DataSheet) -> Result<()> {
 
 /// Shows the device of a text, or why the text is of none.
 fn show_text(rt: &HostRuntime, text: &[u8]) -> Result<()> {
-    match DataSheet::read(rt.alloc(), text) {
+    match DataSheet::read(rt.alloc(), false, text) {
         Ok(device) => show_device(rt, &device),
         Err(fault) => Ok(println!(rt; "! {fault}")?),
     }
@@ -53,7 +53,7 @@ fn show_all(rt: &HostRuntime) -> Result<()> {
 /// The device of a data sheet.
 fn device(rt: &HostRuntime, path: &str) -> Result<DataSheet> {
     let text = fs::read(rt, path)?;
-    Ok(DataSheet::read(rt.alloc(), &text)?)
+    Ok(DataSheet::read(rt.alloc(), false, &text)?)
 }
 
 /// Plays the lines of the input with two of a sensor and two drives.

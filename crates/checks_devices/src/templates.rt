@@ -38,7 +38,7 @@ const SHEET: &[u8] = b"[FileInfo]\nFileName=made.eds\n\
 fn sheet(alloc: Global, text: &[u8]) -> Result<(Rc<DataSheet>, Template), Fail>
     ensures { IfOk result (λ pair. pair.1 ≡ pair.0.value) }
 {
-    let device = Rc::new(alloc, DataSheet::read(alloc, text)?)?;
+    let device = Rc::new(alloc, DataSheet::read(alloc, false, text)?)?;
     let template = Template::of(alloc, device.clone()?)?;
     Ok((device, template))
 }

@@ -12,9 +12,9 @@ use eds_dcf::{Device, dcf_text};
 use eds_device::DeviceFault;
 use std::alloc::{AllocError, Global};
 
-/// A data sheet is read.
-pub fn read_device(alloc: Global, text: &[u8]) -> Result<Device, DeviceFault> {
-    Device::read(alloc, text)
+/// A data sheet is read, by the rules of version 3 or not.
+pub fn read_device(alloc: Global, is_three: bool, text: &[u8]) -> Result<Device, DeviceFault> {
+    Device::read(alloc, is_three, text)
 }
 
 /// Why a data sheet isn't read, by number.
@@ -76,7 +76,7 @@ pub fn dcf(
     bitrate: u16,
     writes: &[Write],
 ) -> Result<Vec<u8>, AllocError>
-    requires { All (λ w. Fits (kind_at device.now.sections (w.index, w.sub)) w.bytes) writes.now }
+    requires { All (λ w. Fits (kind_at device.now (w.index, w.sub)) w.bytes) writes.now }
 {
     dcf_text(alloc, device, node, name, bitrate, writes)
 }

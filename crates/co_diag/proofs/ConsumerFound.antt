@@ -63,7 +63,7 @@ unfolding unfit_consumers consumers Holds
 consumers_hold p d c =
     let one = from_filter_map (consumer_diagnostic (producer_time p)) (consumers p) d c in
     let at = from_flat_map (consumers_in (numbers_of p)) (members p) one.0 one.1 in
-    let place = from_filter_map (consumer_of (numbers_of p at.0) at.0.0) (pairs_of at.0.1.sections) one.0 at.2 in
+    let place = from_filter_map (consumer_of (numbers_of p at.0) at.0.0) (pairs_of at.0.1.sheet.sections) one.0 at.2 in
     let entry = consumer_by (numbers_of p at.0) at.0.0 place.0 one.0 place.2 in
     let unfit = unfit_by (producer_time p) one.0 d one.2 in
     let holds : HasUnfitConsumer p one.0.node one.0.sub =
@@ -81,22 +81,22 @@ consumers_hold p d c =
 
 -- an entry that has a number is one of the device
 number_there : (width : Width) (p : Content) (m : Member) (node : ℕ) (place : ℕ × ℕ) (n : ℕ)
-    → number_after p m node width place ≡ Some n → Contains (pairs_of m.sections) place
+    → number_after p m node width place ≡ Some n → Contains (pairs_of m.sheet.sections) place
 unfolding number_after
-number_there width p m node place n h = by (is_unsigned (kind_at m.sections place) width) refl h
+number_there width p m node place n h = by (is_unsigned (kind_at m.sheet place) width) refl h
   where
-    by : (b : Bool) → is_unsigned (kind_at m.sections place) width ≡ b
+    by : (b : Bool) → is_unsigned (kind_at m.sheet place) width ≡ b
         → (if b then option_map (little_number (octets width)) (get (values_after p m node) place) else None) ≡ Some n
-        → Contains (pairs_of m.sections) place
-    by true is h = unsigned_there m.sections place width is
+        → Contains (pairs_of m.sheet.sections) place
+    by true is h = unsigned_there m.sheet place width is
     by false is h = cc
 
 consumer_there : (p : Content) (m : Member) (node sub n : ℕ)
-    → consumer_at (number_after p m node) (0x1016, sub) ≡ Some n → Contains (pairs_of m.sections) (0x1016, sub)
+    → consumer_at (number_after p m node) (0x1016, sub) ≡ Some n → Contains (pairs_of m.sheet.sections) (0x1016, sub)
 consumer_there p m node sub n h = by (nat_le 1 sub) h
   where
     by : (t : Bool) → (if t then number_after p m node Bits32 (0x1016, sub) else None) ≡ Some n
-        → Contains (pairs_of m.sections) (0x1016, sub)
+        → Contains (pairs_of m.sheet.sections) (0x1016, sub)
     by true h = number_there Bits32 p m node (0x1016, sub) n h
     by false h = cc
 
@@ -106,7 +106,7 @@ unfolding unfit_consumers consumers
 consumers_listed p node sub h =
     Contains-filter_map (consumer_diagnostic (producer_time p)) (consumers p) c d
     (Contains-flat_map (consumers_in (numbers_of p)) (members p) e c (member_listed p node h.member h.is)
-    (Contains-filter_map (consumer_of (numbers_of p e) node) (pairs_of h.member.sections) (0x1016, sub) c
+    (Contains-filter_map (consumer_of (numbers_of p e) node) (pairs_of h.member.sheet.sections) (0x1016, sub) c
     (consumer_there p h.member node sub h.consumer h.there) (ap (option_map (with_value node sub)) h.there)))
     (ap (λ (t : Bool). if t then Some d else None) h.unfit)
   where

@@ -7,7 +7,6 @@ use Rattle.std.specs.Option.{option_map_or}
 use Rattle.std.specs.Result.{result_err}
 use Rattle.std.proofs.lemmas.Cmp.{nat_cmp_total}
 use Rattle.std.proofs.lemmas.Map.Lookups.{exact_unsigned}
-use Rattle.ini_text.specs.Content.{Content as DataSheet, Section, content_of}
 use Rattle.co_values.specs.Types.{is_modelled}
 use Rattle.co_values.specs.Values.{value}
 use Rattle.co_dict.specs.declared.entry.Entry.{Entry}
@@ -15,14 +14,15 @@ use Rattle.co_scenario.specs.declared.event.Event.{Event}
 use Rattle.co_scenario.specs.declared.event.Event.TheVariants as event
 use Rattle.co_scenario.specs.declared.timed_event.TimedEvent.{TimedEvent}
 use Rattle.eds_device.specs.Entries.{entry_at}
+use Rattle.eds_device.specs.Sheets.{Sheet}
 use Rattle.node_parameters.specs.declared.parameter_fault.ParameterFault.{ParameterFault}
 use Rattle.node_parameters.specs.declared.parameter_fault.ParameterFault.TheVariants as parameter
 use Rattle.node_parameters.specs.Judgement.{set_bytes}
 use Rattle.node_parameters.proofs.WrittenLemmas.{Contains-filter_map, from_filter_map}
 use Rattle.co_project.specs.declared.node.Node.{Node}
 use Rattle.co_project.specs.Project.{Content}
-use Rattle.co_project.specs.Tables.{node_at, text_at}
-use Rattle.project_plan.specs.Network.{Member, member_at, with_sections}
+use Rattle.co_project.specs.Tables.{node_at}
+use Rattle.project_plan.specs.Network.{Member, device_at, member_at, with_sheet}
 use Rattle.diag_lines.specs.declared.diag.Diag.{Diag}
 use Rattle.diag_lines.specs.declared.subject.Subject.TheVariants as of
 use Rattle.diag_nodes.specs.Codes.{parameter_code}
@@ -67,36 +67,32 @@ of_code p parameter.OutsideLimits number is h = cc
 
 -- ---- the device of a node
 
--- the sections of a member are those of its device
-by_device : {X : Type 0} (g : List Section → Option X) (p : Content) (id : ℕ)
-    → option_and_then (λ (d : DataSheet). g d.sections) (device_for p id) ≡ option_and_then (λ (m : Member). g m.sections)
-    (member_at p id)
+-- the data sheet of a member is its device
+by_device : {X : Type 0} (g : Sheet → Option X) (p : Content) (id : ℕ)
+    → option_and_then g (device_for p id) ≡ option_and_then (λ (m : Member). g m.sheet) (member_at p id)
 unfolding member_at
 by_device {X} g p id = by (node_at p.nodes id)
   where
-    there : (node : Node) (o : Option (List ℕ))
-        → option_and_then (λ (d : DataSheet). g d.sections) (option_map content_of o)
-        ≡ option_and_then (λ (m : Member). g m.sections)
-        (option_map (λ text. record { node = node; sections = (content_of text).sections }) o)
+    there : (node : Node) (o : Option Sheet) → option_and_then g o
+        ≡ option_and_then (λ (m : Member). g m.sheet) (option_map (λ sheet. record { node = node; sheet = sheet }) o)
     there node None = refl
-    there node (Some text) = refl
+    there node (Some sheet) = refl
 
-    by : (o : Option Node) → option_and_then (λ (d : DataSheet). g d.sections)
-        (option_and_then (λ (node : Node). option_map content_of (text_at p.texts node.eds)) o)
-        ≡ option_and_then (λ (m : Member). g m.sections) (option_and_then (with_sections p) o)
+    by : (o : Option Node) → option_and_then g (option_and_then (λ (node : Node). device_at p node.eds) o)
+        ≡ option_and_then (λ (m : Member). g m.sheet) (option_and_then (with_sheet p) o)
     by None = refl
-    by (Some node) = there node (text_at p.texts node.eds)
+    by (Some node) = there node (device_at p node.eds)
 
 -- what is said of an event that sets a value of a member
 abbrev set_of_member : ℕ → ℕ → ℕ → ℕ → List ℕ → Option Member → Option Diag
 set_of_member number node index sub text o = option_map (λ fault. diagnostic (parameter_code fault) (of.Event number))
-    (option_and_then (λ (m : Member). result_err (set_bytes (entry_at m.sections node index sub) text node)) o)
+    (option_and_then (λ (m : Member). result_err (set_bytes (entry_at m.sheet node index sub) text node)) o)
 
 set_is : (p : Content) (number node index sub : ℕ) (text : List ℕ)
     → set_fault p number (event.Set node index sub text)
     ≡ set_of_member number node index sub text (member_at p node)
 set_is p number node index sub text = ap (option_map (λ fault. diagnostic (parameter_code fault) (of.Event number)))
-    (by_device (λ ss. result_err (set_bytes (entry_at ss node index sub) text node)) p node)
+    (by_device (λ sheet. result_err (set_bytes (entry_at sheet node index sub) text node)) p node)
 
 -- ---- what is found holds
 
@@ -115,7 +111,7 @@ unfit_by p number time (event.Set node index sub text) d h =
     by (member_at p node) refl (sym (set_is p number node index sub text) ∙ h)
   where
     judge : Member → Result (List ℕ) ParameterFault
-    judge m = set_bytes (entry_at m.sections node index sub) text node
+    judge m = set_bytes (entry_at m.sheet node index sub) text node
 
     with : (m : Member) → member_at p node ≡ Some m → (r : Result (List ℕ) ParameterFault) → judge m ≡ r
         → option_map (λ fault. diagnostic (parameter_code fault) (of.Event number)) (result_err r) ≡ Some d
@@ -136,7 +132,7 @@ unfit_by p number time (event.Set node index sub text) d h =
             is = is;
             fails = j;
           };
-          possible = set_faults (entry_at m.sections node index sub) text node fault j;
+          possible = set_faults (entry_at m.sheet node index sub) text node fault j;
           is = same;
         }
 

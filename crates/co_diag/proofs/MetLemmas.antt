@@ -69,16 +69,16 @@ module _ (e : ℕ × Member) (d : Diag) where
   own_ones = filter_map (λ own. parameter_diagnostic e own.0) (entries e.1.node.params)
 
   abbrev given_ones : List Diag
-  given_ones = filter_map (parameter_diagnostic e) (given_places e.1.sections)
+  given_ones = filter_map (parameter_diagnostic e) (given_places e.1.sheet.sections)
 
   abbrev all_ones : List Diag
-  all_ones = filter_map (parameter_diagnostic e) (pairs_of e.1.sections)
+  all_ones = filter_map (parameter_diagnostic e) (pairs_of e.1.sheet.sections)
 
   of_given : Contains given_ones d → Contains all_ones d
   of_given c =
-      let one = from_filter_map (parameter_diagnostic e) (given_places e.1.sections) d c in
-      Contains-filter_map (parameter_diagnostic e) (pairs_of e.1.sections) one.0 d
-      (passed (is_given e.1.sections) (pairs_of e.1.sections) one.0 one.1) one.2
+      let one = from_filter_map (parameter_diagnostic e) (given_places e.1.sheet.sections) d c in
+      Contains-filter_map (parameter_diagnostic e) (pairs_of e.1.sheet.sections) one.0 d
+      (passed (is_given e.1.sheet.sections) (pairs_of e.1.sheet.sections) one.0 one.1) one.2
 
   pub fault_found : Contains (faults_of_node e) d → Contains (unfit_parameters e) d
   unfolding faults_of_node unfit_parameters
@@ -89,7 +89,7 @@ module _ (e : ℕ × Member) (d : Diag) where
       on (inr given) = Contains-append_right own_ones all_ones d (of_given given)
 
   -- a parameter is the node's own, or its data sheet gives it
-  at_place : (place : ℕ × ℕ) → Contains (pairs_of e.1.sections) place → parameter_diagnostic e place ≡ Some d
+  at_place : (place : ℕ × ℕ) → Contains (pairs_of e.1.sheet.sections) place → parameter_diagnostic e place ≡ Some d
       → Contains (own_ones ++ given_ones) d
   unfolding parameter_text
   at_place place there found = by (get e.1.node.params place) refl u.given
@@ -102,15 +102,15 @@ module _ (e : ℕ × Member) (d : Diag) where
       some_given (Some value) text h = refl
 
       by : (o : Option (List ℕ)) → get e.1.node.params place ≡ o
-          → option_and_then unless_empty (option_or o (given_text e.1.sections place)) ≡ Some u.text
+          → option_and_then unless_empty (option_or o (given_text e.1.sheet.sections place)) ≡ Some u.text
           → Contains (own_ones ++ given_ones) d
       by (Some own) is g = Contains-append_left own_ones given_ones d
           (Contains-filter_map (λ own. parameter_diagnostic e own.0) (entries e.1.node.params) (place, own) d
           (entry_of places_total places_exact e.1.node.params place own is) found)
       by None is g = Contains-append_right own_ones given_ones d
-          (Contains-filter_map (parameter_diagnostic e) (given_places e.1.sections) place d
-          (passes (is_given e.1.sections) (pairs_of e.1.sections) place there
-          (some_given (given_text e.1.sections place) u.text g)) found)
+          (Contains-filter_map (parameter_diagnostic e) (given_places e.1.sheet.sections) place d
+          (passes (is_given e.1.sheet.sections) (pairs_of e.1.sheet.sections) place there
+          (some_given (given_text e.1.sheet.sections place) u.text g)) found)
 
   pub fault_met : Contains (unfit_parameters e) d → Contains (faults_of_node e) d
   unfolding faults_of_node unfit_parameters
@@ -118,7 +118,7 @@ module _ (e : ℕ × Member) (d : Diag) where
     where
       by : Contains own_ones d ⊎ Contains all_ones d → Contains (own_ones ++ given_ones) d
       by (inl own) = Contains-append_left own_ones given_ones d own
-      by (inr all) = let one = from_filter_map (parameter_diagnostic e) (pairs_of e.1.sections) d all
+      by (inr all) = let one = from_filter_map (parameter_diagnostic e) (pairs_of e.1.sheet.sections) d all
           in at_place one.0 one.1 one.2
 
 -- ---- all nodes

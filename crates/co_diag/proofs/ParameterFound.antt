@@ -34,28 +34,28 @@ use Rattle.diag_nodes.proofs.MemberLemmas.{entry_of, member_found, member_listed
 pub record Unfit (e : ℕ × Member) (place : ℕ × ℕ) (d : Diag) : Type 0 where
   pub fault : ParameterFault
   pub text : List ℕ
-  pub given : parameter_text e.1.sections e.1.node.params place ≡ Some text
-  pub fails : parameter_bytes (entry_at e.1.sections e.0 place.0 place.1) text e.0 ≡ Err fault
+  pub given : parameter_text e.1.sheet.sections e.1.node.params place ≡ Some text
+  pub fails : parameter_bytes (entry_at e.1.sheet e.0 place.0 place.1) text e.0 ≡ Err fault
   pub is : diagnostic (parameter_code fault) (of.Param e.0 place.0 place.1) ≡ d
 
 pub unfit_by : (e : ℕ × Member) (place : ℕ × ℕ) (d : Diag) → parameter_diagnostic e place ≡ Some d → Unfit e place d
 unfolding parameter_diagnostic
-unfit_by e place d h = with (parameter_text e.1.sections e.1.node.params place) refl h
+unfit_by e place d h = with (parameter_text e.1.sheet.sections e.1.node.params place) refl h
   where
     judge : List ℕ → Result (List ℕ) ParameterFault
-    judge text = parameter_bytes (entry_at e.1.sections e.0 place.0 place.1) text e.0
+    judge text = parameter_bytes (entry_at e.1.sheet e.0 place.0 place.1) text e.0
 
     of_fault : ParameterFault → Diag
     of_fault fault = diagnostic (parameter_code fault) (of.Param e.0 place.0 place.1)
 
-    by : (text : List ℕ) → parameter_text e.1.sections e.1.node.params place ≡ Some text
+    by : (text : List ℕ) → parameter_text e.1.sheet.sections e.1.node.params place ≡ Some text
         → (r : Result (List ℕ) ParameterFault) → judge text ≡ r
         → option_map of_fault (result_err r) ≡ Some d → Unfit e place d
     by text given (Ok bytes) j h = cc
     by text given (Err fault) j h = let same : of_fault fault ≡ d = cc
         in record { fault = fault; text = text; given = given; fails = j; is = same }
 
-    with : (o : Option (List ℕ)) → parameter_text e.1.sections e.1.node.params place ≡ o
+    with : (o : Option (List ℕ)) → parameter_text e.1.sheet.sections e.1.node.params place ≡ o
         → option_map of_fault (option_and_then (λ text. result_err (judge text)) o) ≡ Some d → Unfit e place d
     with None given h = cc
     with (Some text) given h = by text given (judge text) refl h
@@ -84,32 +84,32 @@ parameters_hold p d c =
     let at = from_flat_map unfit_parameters (members p) d c in
     by at.0 (member_found p at.0 at.1)
     (Contains-append_cases (filter_map (λ own. parameter_diagnostic at.0 own.0) (entries at.0.1.node.params))
-    (filter_map (parameter_diagnostic at.0) (pairs_of at.0.1.sections)) d at.2)
+    (filter_map (parameter_diagnostic at.0) (pairs_of at.0.1.sheet.sections)) d at.2)
   where
     by : (e : ℕ × Member) → member_at p e.0 ≡ Some e.1
         → Contains (filter_map (λ own. parameter_diagnostic e own.0) (entries e.1.node.params)) d
-        ⊎ Contains (filter_map (parameter_diagnostic e) (pairs_of e.1.sections)) d → Holds p d
+        ⊎ Contains (filter_map (parameter_diagnostic e) (pairs_of e.1.sheet.sections)) d → Holds p d
     by e is (inl own) = let one = from_filter_map (λ own. parameter_diagnostic e own.0) (entries e.1.node.params) d own
         in unfit_holds p e one.0.0 d is one.2
-    by e is (inr given) = let one = from_filter_map (parameter_diagnostic e) (pairs_of e.1.sections) d given
+    by e is (inr given) = let one = from_filter_map (parameter_diagnostic e) (pairs_of e.1.sheet.sections) d given
         in unfit_holds p e one.0 d is one.2
 
 -- ---- what holds is found
 
 -- a text that isn't the node's own is one of its device
 given_there : (m : Member) (place : ℕ × ℕ) (text : List ℕ)
-    → option_and_then unless_empty (given_text m.sections place) ≡ Some text → Contains (pairs_of m.sections) place
+    → option_and_then unless_empty (given_text m.sheet.sections place) ≡ Some text → Contains (pairs_of m.sheet.sections) place
 given_there m place text h = by (is_of_pdos place.0) h
   where
-    with : (o : Option (List ℕ)) → value_text m.sections place.0 place.1 ≡ o
-        → option_and_then unless_empty o ≡ Some text → Contains (pairs_of m.sections) place
+    with : (o : Option (List ℕ)) → value_text m.sheet.sections place.0 place.1 ≡ o
+        → option_and_then unless_empty o ≡ Some text → Contains (pairs_of m.sheet.sections) place
     with None is h = cc
-    with (Some value) is h = value_there m.sections place value is
+    with (Some value) is h = value_there m.sheet place value is
 
-    by : (b : Bool) → option_and_then unless_empty (if b then None else value_text m.sections place.0 place.1)
-        ≡ Some text → Contains (pairs_of m.sections) place
+    by : (b : Bool) → option_and_then unless_empty (if b then None else value_text m.sheet.sections place.0 place.1)
+        ≡ Some text → Contains (pairs_of m.sheet.sections) place
     by true h = cc
-    by false h = with (value_text m.sections place.0 place.1) refl h
+    by false h = with (value_text m.sheet.sections place.0 place.1) refl h
 
 pub parameters_listed : (p : Content) (fault : ParameterFault) (node index sub : ℕ)
     → HasUnfitParameter p fault node index sub
@@ -135,10 +135,10 @@ parameters_listed p fault node index sub h =
     own_ones = filter_map (λ own. parameter_diagnostic e own.0) (entries h.member.node.params)
 
     given_ones : List Diag
-    given_ones = filter_map (parameter_diagnostic e) (pairs_of h.member.sections)
+    given_ones = filter_map (parameter_diagnostic e) (pairs_of h.member.sheet.sections)
 
     among : (o : Option (List ℕ)) → get h.member.node.params place ≡ o
-        → option_and_then unless_empty (option_or o (given_text h.member.sections place)) ≡ Some h.text
+        → option_and_then unless_empty (option_or o (given_text h.member.sheet.sections place)) ≡ Some h.text
         → Contains (own_ones ++ given_ones) d
     among (Some own) is g =
         Contains-append_left own_ones given_ones d
@@ -147,4 +147,4 @@ parameters_listed p fault node index sub h =
     among None is g =
         Contains-append_right own_ones given_ones d
         (Contains-filter_map (parameter_diagnostic e)
-        (pairs_of h.member.sections) place d (given_there h.member place h.text g) found)
+        (pairs_of h.member.sheet.sections) place d (given_there h.member place h.text g) found)

@@ -16,13 +16,14 @@ use Rattle.eds_device.proofs.LawLemmas.{shape_at}
 use Rattle.node_parameters.specs.declared.parameter_fault.ParameterFault.{ParameterFault}
 use Rattle.node_parameters.specs.declared.parameter_fault.ParameterFault.TheVariants as parameter
 use Rattle.node_parameters.specs.Judgement.{set_bytes}
-use Rattle.ini_text.specs.Content.{content_of}
+use Rattle.eds_device.specs.Sheets.{Sheet, sheet_of}
+use Rattle.project_edits.specs.Versions.{is_three}
 use Rattle.co_project.specs.declared.node.Node.{Node}
 use Rattle.co_project.specs.Project.{Content}
 use Rattle.co_project.specs.Sound.{IsEventOf, IsSound}
 use Rattle.co_project.proofs.SoundLemmas.{nodes_have_texts}
 use Rattle.project_plan.specs.Events.{bytes_set, set_step, shape_of_node, step_of}
-use Rattle.project_plan.specs.Network.{Member, member_at, with_sections}
+use Rattle.project_plan.specs.Network.{Member, member_at, with_sheet}
 use Rattle.diag_lines.specs.declared.code.Code.{Code}
 use Rattle.diag_lines.specs.declared.code.Code.TheVariants.{NoEntry, Unreadable, OutsideLimits, NotWritable, NoObjects}
 use Rattle.diag_lines.specs.declared.code.Code.TheVariants.{TpdoTaken, TooManyBits, NotMappable, Mismatched, NoRpdo}
@@ -40,9 +41,9 @@ use Rattle.co_diag.specs.Holds.{SetsUnfitValue, HoldsOf, Holds}
 use Rattle.co_diag.proofs.EventFound.{events_hold, events_listed}
 use Rattle.co_diag.proofs.FoundLemmas.{the_list}
 
--- a node with the sections of a text
-abbrev made : Node → List ℕ → Member
-made n text = record { node = n; sections = (content_of text).sections }
+-- a node with a data sheet
+abbrev made : Node → Sheet → Member
+made n sheet = record { node = n; sheet = sheet }
 
 something : (o : Option Step) → o ≡ None → is_some o ≡ true → ⊥
 something None is h = cc
@@ -94,15 +95,15 @@ module _ (p : Content) (number : ℕ) where
   module _ (node index sub : ℕ) (text : List ℕ) where
     value_of_member : (m : Member) → member_at p node ≡ Some m
         → bytes_set (shape_of_node p) node index sub text
-        ≡ result_ok (set_bytes (entry_at m.sections node index sub) text node)
+        ≡ result_ok (set_bytes (entry_at m.sheet node index sub) text node)
     unfolding shape_of_node
     value_of_member m is =
         ap (λ (o : Option Member). option_and_then (λ (shape : Shaped). result_ok (set_bytes
-        (get shape.entries (index, sub)) text node)) (option_map (λ (m : Member). shape_of m.sections node) o)) is
-        ∙ ap (λ (o : Option Entry). result_ok (set_bytes o text node)) (shape_at m.sections node index sub)
+        (get shape.entries (index, sub)) text node)) (option_map (λ (m : Member). shape_of m.sheet node) o)) is
+        ∙ ap (λ (o : Option Entry). result_ok (set_bytes o text node)) (shape_at m.sheet node index sub)
 
     step_of_member : (m : Member) (r : Result (List ℕ) ParameterFault) → member_at p node ≡ Some m
-        → set_bytes (entry_at m.sections node index sub) text node ≡ r
+        → set_bytes (entry_at m.sheet node index sub) text node ≡ r
         → step_of (shape_of_node p) (event.Set node index sub text) ≡ option_map (set_step node index sub) (result_ok r)
     step_of_member m r is given =
         ap (option_map (set_step node index sub)) (value_of_member m is ∙ ap result_ok given)
@@ -129,13 +130,15 @@ module _ (p : Content) (number : ℕ) where
     has_member node known = by (get p.nodes node) refl known
       where
         by_text : (n : Node) (o : Option (List ℕ)) → get p.texts n.eds ≡ o → is_some o ≡ true
-            → (m : Member) × (with_sections p n ≡ Some m)
+            → (m : Member) × (with_sheet p n ≡ Some m)
         by_text n None is here = cc
-        by_text n (Some text) is here =
-            (made n text, ap (option_map (made n)) is)
+        by_text n (Some text) is here = (
+          made n (sheet_of (is_three p.version) text),
+          ap (λ o. option_map (made n) (option_map (sheet_of (is_three p.version)) o)) is,
+        )
 
         by : (o : Option Node) → get p.nodes node ≡ o → is_some o ≡ true
-            → (m : Member) × (option_and_then (with_sections p) o ≡ Some m)
+            → (m : Member) × (option_and_then (with_sheet p) o ≡ Some m)
         by None is here = cc
         by (Some n) is here =
             let kept : contains_key p.texts n.eds ≡ true =
@@ -155,10 +158,10 @@ module _ (p : Content) (number : ℕ) where
         let is : IsEventOf p number (record { time = time; event = event.Set node index sub text }) =
         known (record { time = time; event = event.Set node index sub text }) there in
         let m = has_member node is.3 in
-        by m.0 m.1 (set_bytes (entry_at m.0.sections node index sub) text node) refl
+        by m.0 m.1 (set_bytes (entry_at m.0.sheet node index sub) text node) refl
       where
         by : (m : Member) → member_at p node ≡ Some m → (r : Result (List ℕ) ParameterFault)
-            → set_bytes (entry_at m.sections node index sub) text node ≡ r
+            → set_bytes (entry_at m.sheet node index sub) text node ≡ r
             → is_some (step_of (shape_of_node p) (event.Set node index sub text)) ≡ true
         by m is (Ok bytes) given = ap is_some (step_of_member node index sub text m (Ok bytes) is given)
         by m is (Err fault) given = absurd (fault_is_listed fault (record {

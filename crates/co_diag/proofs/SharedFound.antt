@@ -23,11 +23,11 @@ use Rattle.co_diag.proofs.ListLemmas.{length-filter_flat_map, length-filter_give
 as_many : (p : Content) (id : ℕ) → length (senders_with p id) ≡ length (filter (λ n. n == id) (identifiers p))
 unfolding senders_with sends_with identifiers
 as_many p id =
-    length-filter_flat_map (λ e. map (λ place. (e.0, place)) (filter (sends_with p id e) (pairs_of e.1.sections)))
+    length-filter_flat_map (λ e. map (λ place. (e.0, place)) (filter (sends_with p id e) (pairs_of e.1.sheet.sections)))
     (identifiers_in (numbers_of p)) (λ n. n == id)
-    (λ e. length-map (filter (sends_with p id e) (pairs_of e.1.sections)) (λ place. (e.0, place))
+    (λ e. length-map (filter (sends_with p id e) (pairs_of e.1.sheet.sections)) (λ place. (e.0, place))
     ∙ length-filter_given (sends_with p id e) (identifier_at (numbers_of p e)) (λ n. n == id) (λ place. refl)
-    (pairs_of e.1.sections))
+    (pairs_of e.1.sheet.sections))
     (members p)
 
 -- ---- what is found holds

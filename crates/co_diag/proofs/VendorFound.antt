@@ -83,9 +83,9 @@ module _ (p : Content) where
   nodes_hold : is_three p.version ≡ true → (d : Diag) → Contains of_nodes d → Holds p d
   nodes_hold rules d c =
       let at = from_flat_map (node_findings plan) (members p) d c in
-      let made : IsMadeNode p at.0.0 (as_made at.0.1.sections at.0.0) =
+      let made : IsMadeNode p at.0.0 (as_made at.0.1.sheet at.0.0) =
       record { member = at.0.1; rules = rules; is = member_found p at.0 at.1; made = refl } in
-      of_pdos (as_made at.0.1.sections at.0.0) at.0.0 d made at.2
+      of_pdos (as_made at.0.1.sheet at.0.0) at.0.0 d made at.2
 
   -- a receive that is of no use
   useless_holds : is_three p.version ≡ true → (m : PlannedMessage) (linked : Linked) (r : ℕ × Receive) (d : Diag)

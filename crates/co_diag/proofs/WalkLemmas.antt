@@ -8,11 +8,13 @@ use Rattle.std.specs.Option.{option_map_or}
 use Rattle.std.proofs.lemmas.Cmp.{nat_list_cmp_total}
 use Rattle.std.proofs.lemmas.List.Elements.{All-head, All-tail, All-weaker}
 use Rattle.std.proofs.lemmas.Map.Lookups.{exact_bytes}
-use Rattle.ini_text.specs.Content.{Content as DataSheet, content_of}
+use Rattle.ini_text.specs.Content.{content_of}
 use Rattle.base.proofs.EachLemmas.{all_entries, each_there}
 use Rattle.co_project.specs.declared.node.Node.{Node}
 use Rattle.project_edits.specs.Eds.{IsEds}
+use Rattle.project_edits.specs.Versions.{is_three}
 use Rattle.eds_device.specs.Faults.{device_of}
+use Rattle.eds_device.specs.Sheets.{Sheet, sheet_of}
 use Rattle.co_project.specs.Project.{Content}
 use Rattle.co_project.specs.Sound.{AreTexts, IsSound}
 use Rattle.co_project.specs.Tables.{text_at}
@@ -59,7 +61,8 @@ module _ (p : Content) where
   lines_among (e ∷ es) all =
       let here : text_at p.texts e.0 ≡ Some e.1 = All-head (λ e. text_at p.texts e.0 ≡ Some e.1) e es all in
       ap (λ ds. ds ++ flat_map skipped_lines es)
-      (sym (ap (λ o. option_map_or (lines_of e.0) (option_map content_of o) []) here))
+      (sym (ap (λ o. option_map_or (λ (sheet : Sheet). lines_of e.0 sheet.warnings)
+      (option_map (sheet_of (is_three p.version)) o) []) here))
       ∙ ap (λ ds. lines_at p e.0 ++ ds) (lines_among es (All-tail (λ e. text_at p.texts e.0 ≡ Some e.1) e es all))
 
   -- and that of a device
@@ -78,8 +81,8 @@ module _ (p : Content) where
 -- ---- nodes
 
 -- what is found of a device as it was made is that of its node
-pub found_made : (plan : List PlannedMessage) (p : Content) (e : ℕ × Node) (device : DataSheet) (made : AsMade)
-    (old new : List Diag) → device_at p e.1.eds ≡ Some device → made ≡ as_made device.sections e.0
+pub found_made : (plan : List PlannedMessage) (p : Content) (e : ℕ × Node) (device : Sheet) (made : AsMade)
+    (old new : List Diag) → device_at p e.1.eds ≡ Some device → made ≡ as_made device e.0
     → new ≡ old ++ pdo_findings plan made e.0 → new ≡ old ++ of_node (node_findings plan) p e
 found_made plan p e device made old new there is now =
     now ∙ ap (λ m. old ++ pdo_findings plan m e.0) is

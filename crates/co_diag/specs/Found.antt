@@ -6,11 +6,12 @@ use Rattle.std.specs.FinMap.{entries, get}
 use Rattle.std.specs.List.{flat_map}
 use Rattle.std.specs.Option.{option_map_or}
 use Rattle.std.specs.Result.{result_err}
-use Rattle.ini_text.specs.Content.{Content as DataSheet, content_of}
+use Rattle.ini_text.specs.Content.{content_of}
 use Rattle.cia301.specs.TransmissionTypes.{is_on_request}
 use Rattle.cia301.specs.CobIds.{is_restricted}
 use Rattle.eds_device.specs.Entries.{entry_at}
 use Rattle.eds_device.specs.Places.{pairs_of}
+use Rattle.eds_device.specs.Sheets.{Sheet}
 use Rattle.node_parameters.specs.Judgement.{set_bytes}
 use Rattle.co_scenario.specs.declared.event.Event.{Event}
 use Rattle.co_scenario.specs.declared.timed_event.TimedEvent.{TimedEvent}
@@ -49,7 +50,7 @@ use Rattle.diag_lines.specs.declared.subject.Subject.TheVariants as of
 -- the faults of a node's own parameters, and of the entries of its EDS
 unfoldable pub unfit_parameters : ℕ × Member → List Diag
 unfit_parameters e = filter_map (λ own. parameter_diagnostic e own.0) (entries e.1.node.params)
-    ++ filter_map (parameter_diagnostic e) (pairs_of e.1.sections)
+    ++ filter_map (parameter_diagnostic e) (pairs_of e.1.sheet.sections)
 
 -- ---- configured nodes
 
@@ -111,7 +112,7 @@ pdo_findings plan device node =
     (refused_places device (vendor_link_writes plan device node))
 
 abbrev pub node_findings : List PlannedMessage → ℕ × Member → List Diag
-node_findings plan e = pdo_findings plan (as_made e.1.sections e.0) e.0
+node_findings plan e = pdo_findings plan (as_made e.1.sheet e.0) e.0
 
 -- a receive of a message that is of no use
 abbrev pub useless_receive : Content → PlannedMessage → Linked → ℕ × Receive → Option Diag
@@ -135,7 +136,7 @@ vendor_findings p =
 abbrev pub set_fault : Content → ℕ → Event → Option Diag
 set_fault p number (event.Set node index sub text) =
     option_map (λ fault. diagnostic (parameter_code fault) (of.Event number))
-    (option_and_then (λ (d : DataSheet). result_err (set_bytes (entry_at d.sections node index sub) text node))
+    (option_and_then (λ (sheet : Sheet). result_err (set_bytes (entry_at sheet node index sub) text node))
     (device_for p node))
 set_fault p number (event.Power node on) = None
 set_fault p number (event.Nmt node command) = None
@@ -145,12 +146,12 @@ unfit_event p e = set_fault p e.0 e.1.event
 
 -- ---- texts
 
--- the lines of an EDS that aren't used
-abbrev pub lines_of : List ℕ → DataSheet → List Diag
-lines_of name d = map (λ line. diagnostic SkippedLine (of.Eds name line)) d.warnings
+-- these lines of an EDS aren't used, whichever data types count
+abbrev pub lines_of : List ℕ → List ℕ → List Diag
+lines_of name numbers = map (λ line. diagnostic SkippedLine (of.Eds name line)) numbers
 
 unfoldable pub skipped_lines : List ℕ × List ℕ → List Diag
-skipped_lines text = lines_of text.0 (content_of text.1)
+skipped_lines text = lines_of text.0 (content_of text.1).warnings
 
 -- ---- all
 

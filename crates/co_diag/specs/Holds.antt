@@ -5,7 +5,7 @@ use Rattle.std.specs.Prelude.{Some, None, option_and_then, option_map, Err, Cont
 use Rattle.std.specs.FinMap.{get}
 use Rattle.std.specs.List.{find, flat_map, list_any}
 use Rattle.std.specs.Option.{option_map_or}
-use Rattle.ini_text.specs.Content.{Content as DataSheet, content_of}
+use Rattle.ini_text.specs.Content.{content_of}
 use Rattle.cia301.specs.TransmissionTypes.{is_on_request, is_synchronous, type_of_byte}
 use Rattle.cia301.specs.declared.transmission_type.TransmissionType.{TransmissionType}
 use Rattle.cia301.specs.declared.transmission_type.TransmissionType.TheVariants.{Cyclic}
@@ -13,6 +13,7 @@ use Rattle.cia301.specs.CobIds.{is_restricted}
 use Rattle.eds_device.specs.Described.{default_text, kind_at}
 use Rattle.eds_device.specs.Entries.{entry_at}
 use Rattle.eds_device.specs.Places.{pairs_of}
+use Rattle.eds_device.specs.Sheets.{Sheet}
 use Rattle.node_parameters.specs.declared.parameter_fault.ParameterFault.{ParameterFault}
 use Rattle.node_parameters.specs.Judgement.{parameter_bytes, set_bytes}
 use Rattle.node_parameters.specs.Parameters.{parameter_text}
@@ -57,8 +58,8 @@ pub record HasUnfitParameter (p : Content) (fault : ParameterFault) (node index 
   pub member : Member
   pub text : List ℕ
   pub is : member_at p node ≡ Some member
-  pub given : parameter_text member.sections member.node.params (index, sub) ≡ Some text
-  pub fails : parameter_bytes (entry_at member.sections node index sub) text node ≡ Err fault
+  pub given : parameter_text member.sheet.sections member.node.params (index, sub) ≡ Some text
+  pub fails : parameter_bytes (entry_at member.sheet node index sub) text node ≡ Err fault
 
 -- what an event sets has this fault; it may be read-only, and outside its limits
 pub record SetsUnfitValue (p : Content) (fault : ParameterFault) (number : ℕ) : Type 0 where
@@ -70,15 +71,15 @@ pub record SetsUnfitValue (p : Content) (fault : ParameterFault) (number : ℕ) 
   pub member : Member
   pub there : get p.events number ≡ Some (record { time = time; event = Set node index sub text })
   pub is : member_at p node ≡ Some member
-  pub fails : set_bytes (entry_at member.sections node index sub) text node ≡ Err fault
+  pub fails : set_bytes (entry_at member.sheet node index sub) text node ≡ Err fault
 
 -- the DefaultValue of an entry of a modelled type spells none of its values at the node
 pub record HasUnreadableDefault (p : Content) (node index sub : ℕ) : Type 0 where
   pub member : Member
   pub text : List ℕ
   pub is : member_at p node ≡ Some member
-  pub given : default_text member.sections index sub ≡ Some text
-  pub unreadable : spells_none node text (kind_at member.sections (index, sub)) ≡ true
+  pub given : default_text member.sheet index sub ≡ Some text
+  pub unreadable : spells_none node text (kind_at member.sheet (index, sub)) ≡ true
 
 -- a message has this fault, which keeps it out of the plan
 pub record HasMessageFault (p : Content) (fault : MessageFault) (name : List ℕ) : Type 0 where
@@ -123,7 +124,7 @@ sends_with p id e place = option_map_or (λ n. n == id) (identifier_at (numbers_
 
 -- the TPDOs of all nodes that are on with an identifier, each with its node
 unfoldable pub senders_with : Content → ℕ → List (ℕ × (ℕ × ℕ))
-senders_with p id = flat_map (λ e. map (λ place. (e.0, place)) (filter (sends_with p id e) (pairs_of e.1.sections)))
+senders_with p id = flat_map (λ e. map (λ place. (e.0, place)) (filter (sends_with p id e) (pairs_of e.1.sheet.sections)))
     (members p)
 
 -- two or more TPDOs are on with an identifier that isn't restricted
@@ -166,7 +167,7 @@ pub record IsMadeNode (p : Content) (node : ℕ) (device : AsMade) : Type 0 wher
   pub member : Member
   pub rules : is_three p.version ≡ true
   pub is : member_at p node ≡ Some member
-  pub made : device ≡ as_made member.sections node
+  pub made : device ≡ as_made member.sheet node
 
 -- a TPDO of a node is sent beside the plan
 pub record SendsUnplanned (p : Content) (node number : ℕ) : Type 0 where
@@ -194,7 +195,7 @@ rpdo_taken outcome node = option_map (λ (k : Consumer). k.rpdo)
 -- an RPDO of a node can't have an event time
 abbrev pub lacks_event : Content → ℕ → ℕ → ℕ → Bool
 lacks_event p node event rpdo =
-    option_map_or (λ (d : DataSheet). not (can_have_event (as_made d.sections node) rpdo event)) (device_for p node) false
+    option_map_or (λ (sheet : Sheet). not (can_have_event (as_made sheet node) rpdo event)) (device_for p node) false
 
 -- a receive of a message is of a node that doesn't take it, or of one whose RPDO can't have the event time
 unfoldable pub is_useless : Content → Linked → Outcome → ℕ × Receive → Bool

@@ -34,7 +34,8 @@ impl TextLines {
         requires { device_of text.now ≡ Ok (content_of text.now) }
         ensures { IfOk result (λ found. found ≡ text.now) }
     {
-        let device = read_device(alloc, text.get().as_slice())?;
+        // These lines are the same, whichever data types count.
+        let device = read_device(alloc, false, text.get().as_slice())?;
         let lines = Vec::from_slice(alloc, device.warnings())?;
         let text = text.share()?;
         Ok(TextLines { text, lines })

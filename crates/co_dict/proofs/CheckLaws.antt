@@ -10,11 +10,10 @@ use Rattle.std.proofs.lemmas.Int.{ints}
 use Rattle.base.specs.Bytes.{AreBytes}
 use Rattle.byteorder.specs.Endian.{little_number}
 use Rattle.co_values.specs.declared.form.Form.{Form}
-use Rattle.co_values.specs.declared.form.Form.TheVariants.{Flag, Signed, Unsigned, Characters, HexPairs, Unmodelled}
-use Rattle.co_values.specs.declared.form.Width.{Width}
-use Rattle.co_values.specs.declared.form.Width.TheVariants.{Bits8, Bits16, Bits32, Bits64}
-use Rattle.co_values.specs.Types.{form, is_integer, is_modelled, len_of_form, octets}
-use Rattle.co_values.specs.Values.{FitsForm, longest_value, number_in}
+use Rattle.co_values.specs.declared.form.Form.TheVariants.{Flag, Signed, Unsigned, Decimal, Characters, HexPairs, Unmodelled}
+use Rattle.co_values.specs.Types.{form, is_integer, is_modelled, len_of_form}
+use Rattle.co_values.specs.Values.{IsLaidOut, longest_value, number_in}
+use Rattle.co_values.proofs.Printed.{octets_most, real_width}
 use Rattle.co_dict.specs.declared.abort.Abort.{Abort}
 use Rattle.co_dict.specs.declared.entry.Entry.{Entry}
 use Rattle.co_dict.specs.Accesses.{is_writable}
@@ -162,33 +161,33 @@ same_test m n e = grind (arith, nat_tests)
 short_test : (m n : ℕ) → n ≤ m → nat_lt m n ≡ false
 short_test m n le = grind (arith, nat_tests)
 
-length_suits : (f : Form) (bytes : List ℕ) → FitsForm f bytes
+length_suits : (f : Form) (bytes : List ℕ) → IsLaidOut f bytes
     → option_map_or (λ n. not (length bytes == n)) (len_of_form f) false ≡ false
 length_suits Flag bytes fits = same_test _ _ fits.0
 length_suits (Signed width) bytes fits = same_test _ _ fits
 length_suits (Unsigned width) bytes fits = same_test _ _ fits
+length_suits (Decimal real) bytes fits = same_test _ _ fits
 length_suits Characters bytes fits = refl
 length_suits HexPairs bytes fits = refl
 length_suits Unmodelled bytes fits = refl
 
-octets_few : (width : Width) → octets width ≤ 8
-octets_few Bits8 = omega arith
-octets_few Bits16 = omega arith
-octets_few Bits32 = omega arith
-octets_few Bits64 = omega arith
-
-length_few : (f : Form) (bytes : List ℕ) → FitsForm f bytes → nat_lt longest_value (length bytes) ≡ false
+length_few : (f : Form) (bytes : List ℕ) → IsLaidOut f bytes → nat_lt longest_value (length bytes) ≡ false
 length_few Flag bytes fits = let one = fits.0 in short_test _ _ (omega arith)
-length_few (Signed width) bytes fits = let few = octets_few width in short_test _ _ (omega arith)
-length_few (Unsigned width) bytes fits = let few = octets_few width in short_test _ _ (omega arith)
+length_few (Signed width) bytes fits = let few = octets_most width in short_test _ _ (omega arith)
+length_few (Unsigned width) bytes fits = let few = octets_most width in short_test _ _ (omega arith)
+length_few (Decimal real) bytes fits =
+    let same = real_width real in
+    let few = octets_most same.0 in
+    short_test _ _ (omega (arith, same.1))
 length_few Characters bytes fits = short_test _ _ fits
 length_few HexPairs bytes fits = short_test _ _ fits
 length_few Unmodelled bytes fits = absurd fits
 
-flag_suits : (f : Form) (bytes : List ℕ) → FitsForm f bytes → is_flag f && nat_lt 1 (little_number 1 bytes) ≡ false
+flag_suits : (f : Form) (bytes : List ℕ) → IsLaidOut f bytes → is_flag f && nat_lt 1 (little_number 1 bytes) ≡ false
 flag_suits Flag bytes fits = let low = fits.1 in short_test _ _ (omega arith)
 flag_suits (Signed width) bytes fits = refl
 flag_suits (Unsigned width) bytes fits = refl
+flag_suits (Decimal real) bytes fits = refl
 flag_suits Characters bytes fits = refl
 flag_suits HexPairs bytes fits = refl
 flag_suits Unmodelled bytes fits = refl
@@ -247,11 +246,12 @@ unfolding mapping_check
 mapping_fits shape values object count e =
     no_more 64 _ (none_holds (count_lines shape values object count) (ap is_ok e)).1.1.0
 
-has_length : (f : Form) (bytes : List ℕ) → FitsForm f bytes
+has_length : (f : Form) (bytes : List ℕ) → IsLaidOut f bytes
     → MatchOption (len_of_form f) (length bytes ≤ longest_value) (λ n. length bytes ≡ n)
 has_length Flag bytes fits = fits.0
 has_length (Signed width) bytes fits = fits
 has_length (Unsigned width) bytes fits = fits
+has_length (Decimal real) bytes fits = fits
 has_length Characters bytes fits = fits
 has_length HexPairs bytes fits = fits
 has_length Unmodelled bytes fits = absurd fits

@@ -8,9 +8,9 @@ use Rattle.std.proofs.lemmas.Bool.Decides.{nat_tests}
 use Rattle.byteorder.specs.Endian.{little_number}
 use Rattle.base.specs.Bytes.{AreBytes}
 use Rattle.co_values.specs.declared.form.Form.{Form}
-use Rattle.co_values.specs.declared.form.Form.TheVariants.{Flag, Signed, Unsigned, Characters, HexPairs, Unmodelled}
+use Rattle.co_values.specs.declared.form.Form.TheVariants.{Flag, Signed, Unsigned, Decimal, Characters, HexPairs, Unmodelled}
 use Rattle.co_values.specs.Types.{form, is_modelled, len_of_form, is_modelled_form}
-use Rattle.co_values.specs.Values.{Fits, FitsForm, longest_value}
+use Rattle.co_values.specs.Values.{IsValueOf, IsLaidOut, longest_value}
 use Rattle.co_dict.specs.declared.abort.Abort.{Abort}
 use Rattle.co_dict.specs.declared.entry.Entry.{Entry}
 use Rattle.co_dict.specs.Checks.{first_refusal, access_lines, access_check, length_lines, length_check, value_lines}
@@ -44,7 +44,7 @@ same_length m n e = grind (arith, nat_tests)
 of_form : (f : Form) (bytes : List ℕ) → not (is_modelled_form f) ≡ false
     → option_map_or (λ n. not (length bytes == n)) (len_of_form f) false ≡ false
     → nat_lt longest_value (length bytes) ≡ false → is_flag f && nat_lt 1 (little_number 1 bytes) ≡ false
-    → FitsForm f bytes
+    → IsLaidOut f bytes
 of_form Flag bytes modelled same short flag = (
   same_length _ 1 same,
   let low = no_more 1 (little_number 1 bytes) flag
@@ -52,6 +52,7 @@ of_form Flag bytes modelled same short flag = (
 )
 of_form (Signed width) bytes modelled same short flag = same_length _ _ same
 of_form (Unsigned width) bytes modelled same short flag = same_length _ _ same
+of_form (Decimal real) bytes modelled same short flag = same_length _ _ same
 of_form Characters bytes modelled same short flag = no_more _ _ short
 of_form HexPairs bytes modelled same short flag = no_more _ _ short
 of_form Unmodelled bytes modelled same short flag = cc
@@ -60,7 +61,7 @@ of_form Unmodelled bytes modelled same short flag = cc
 pub fits_passed : (shape : Shaped) (place : ℕ × ℕ) (entry : Entry) (bytes : List ℕ)
     → Some entry ≡ get shape.entries place
     → IsOk (access_check shape place) → IsOk (length_check shape place (length bytes)) → is_no_flag bytes entry ≡ false
-    → AreBytes bytes → Fits entry.kind bytes
+    → AreBytes bytes → IsValueOf entry.kind bytes
 unfolding access_check length_check
 fits_passed shape place entry bytes there access size flag are_bytes =
     let at : (test : Entry → Bool) → is_entry_that test shape place ≡ false

@@ -2,7 +2,7 @@
 use Rattle.std.specs.Prelude.{◌≡◌, ℕ, ℤ, ◌≤ℤ◌, List, ◌++◌, length, Some, IfSome, IsTrue, Result}
 use Rattle.std.specs.FinMap.{get}
 use Rattle.co_values.specs.Types.{is_integer, is_modelled}
-use Rattle.co_values.specs.Values.{Fits, number_in}
+use Rattle.co_values.specs.Values.{IsValueOf, number_in}
 use Rattle.co_dict.specs.declared.abort.Abort.{Abort}
 use Rattle.co_dict.specs.declared.entry.Entry.{Entry}
 use Rattle.co_dict.specs.Accesses.{is_writable}
@@ -26,7 +26,7 @@ pub record Suits (shape : Shaped) (place : ℕ × ℕ) (bytes : List ℕ) (entry
   pub there : get shape.entries place ≡ Some entry
   pub modelled : IsTrue (is_modelled entry.kind)
   pub writable : IsTrue (is_writable entry.access)
-  pub fits : Fits entry.kind bytes
+  pub fits : IsValueOf entry.kind bytes
   pub above_low : (number : ℤ) → IsTrue (is_integer entry.kind) → number_in entry.kind bytes ≡ Some number
       → IfSome entry.low (λ low. low ≤ℤ number)
   pub below_high : (number : ℤ) → IsTrue (is_integer entry.kind) → number_in entry.kind bytes ≡ Some number

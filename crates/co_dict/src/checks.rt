@@ -4,7 +4,7 @@ ghost use Rattle.std.specs.Prelude.{◌≡◌, ◌≤◌, ◌∷◌, [], if◌th
 ghost use Rattle.std.specs.FinMap as map;
 ghost use Rattle.co_dict.specs.Aborts.{length_too_high, no_object, no_sub_index};
 ghost use Rattle.co_dict.specs.Shapes.{Shaped};
-ghost use Rattle.co_values.specs.Values.{Fits, longest_value};
+ghost use Rattle.co_values.specs.Values.{IsValueOf, longest_value};
 ghost use Rattle.co_dict.specs.Checks.{first_refusal, has_index, entry_lines, access_check, read_check, length_check};
 ghost use Rattle.co_dict.specs.Checks.{is_no_flag, is_below_limit, is_above_limit};
 
@@ -16,18 +16,11 @@ use co_values::{DataType, number_8, number_in};
 /// The longest value, in bytes, of a type without a fixed length.
 const LONGEST_VALUE: usize = 512;
 
-/// Whether some entry has an index.
-fn has_index(shape: &Shape, index: u16) -> bool
-    ensures { result ≡ has_index shape.now index }
-{
-    shape.has_index(index)
-}
-
 /// What an index without the sub is refused by: `NO_OBJECT` where no entry has it, else `NO_SUB_INDEX`.
 fn no_entry(shape: &Shape, index: u16) -> Abort
     ensures { result ≡ if has_index shape.now index then no_sub_index else no_object }
 {
-    if has_index(shape, index) {
+    if shape.has_index(index) {
         Abort::NO_SUB_INDEX
     } else {
         Abort::NO_OBJECT
@@ -153,7 +146,7 @@ pub(crate) fn is_no_flag(entry: &Entry, bytes: &[u8]) -> bool
 
 /// Whether the number of an integer is below the low limit of its entry.
 pub(crate) fn is_below_limit(entry: &Entry, bytes: &[u8]) -> bool
-    requires { Fits entry.now.kind bytes.now }
+    requires { IsValueOf entry.now.kind bytes.now }
     ensures { result ≡ is_below_limit bytes.now entry.now }
 {
     if entry.kind.is_integer()
@@ -168,7 +161,7 @@ pub(crate) fn is_below_limit(entry: &Entry, bytes: &[u8]) -> bool
 
 /// Whether the number of an integer is above the high limit of its entry.
 pub(crate) fn is_above_limit(entry: &Entry, bytes: &[u8]) -> bool
-    requires { Fits entry.now.kind bytes.now }
+    requires { IsValueOf entry.now.kind bytes.now }
     ensures { result ≡ is_above_limit bytes.now entry.now }
 {
     if entry.kind.is_integer()

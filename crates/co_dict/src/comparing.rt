@@ -6,6 +6,7 @@ ghost use Rattle.std.specs.Map.{keys_of};
 ghost use Rattle.co_dict.specs.Places.{place_cmp};
 
 use crate::entry::Entry;
+use co_values::DataType;
 use std::collections::BTreeMap;
 
 /// Whether two limits are the same.
@@ -19,11 +20,18 @@ fn same_limit(limit: Option<i128>, other: Option<i128>) -> bool
     }
 }
 
+/// Whether two data types are the same.
+fn same_kind(kind: DataType, other: DataType) -> bool
+    ensures { IsTrue result ↔ (kind ≡ other) }
+{
+    kind == other
+}
+
 /// Whether two entries are described alike.
 fn same_entry(entry: &Entry, other: &Entry) -> bool
     ensures { IsTrue result ↔ (entry.now ≡ other.now) }
 {
-    entry.kind == other.kind
+    same_kind(entry.kind, other.kind)
         && entry.access == other.access
         && same_limit(entry.low, other.low)
         && same_limit(entry.high, other.high)

@@ -5,7 +5,6 @@ ghost use Rattle.std.specs.FinMap as map;
 ghost use Rattle.base.specs.Bytes.{AreBytes};
 ghost use Rattle.base.specs.Ranges.{is_between};
 ghost use Rattle.co_values.specs.Types.{is_modelled};
-ghost use Rattle.co_values.specs.Values.{Fits};
 ghost use Rattle.co_dict.specs.declared.abort.Abort.{Abort as Code};
 ghost use Rattle.co_dict.specs.declared.entry.Entry.{Entry as Described};
 ghost use Rattle.co_dict.specs.Accesses.{is_writable};

@@ -3,7 +3,7 @@
 ghost use Rattle.std.specs.Prelude.{◌≡◌, ◌↔◌, IsTrue, OnOk, OnErr, option_copied};
 ghost use Rattle.std.specs.FinMap as map;
 ghost use Rattle.co_dict.specs.Places.{place_cmp};
-ghost use Rattle.co_dict.specs.Tables.{HasIndexIn};
+ghost use Rattle.co_dict.specs.Tables.{IsNextIndexIn};
 
 use crate::comparing::same_descriptions;
 use crate::entry::Entry;
@@ -64,14 +64,12 @@ impl Table {
         self.tree.get(&place)
     }
 
-    /// Whether there is an entry with this index.
-    pub(crate) fn has_index(&self, index: u16) -> bool
-        ensures { IsTrue result ↔ HasIndexIn self.now index }
+    /// The least index from a number on that some entry has.
+    pub(crate) fn next_index(&self, from: u16) -> Option<u16>
+        ensures { IsNextIndexIn self.now from result }
     {
-        match self.tree.range((index, 0)..).next() {
-            Some((place, _)) => place.0 == index,
-            None => false,
-        }
+        let (place, _) = self.tree.range((from, 0)..).next()?;
+        Some(place.0)
     }
 
     /// Whether the other table has the same entries.

@@ -2,7 +2,7 @@
 
 ghost use Rattle.std.specs.Prelude.{◌≡◌, ◌≤◌, ℕ, IsOk, OnOk, Some, false, length};
 ghost use Rattle.std.specs.FinMap as map;
-ghost use Rattle.co_values.specs.Values.{Fits, longest_value};
+ghost use Rattle.co_values.specs.Values.{IsValueOf, longest_value};
 ghost use Rattle.co_dict.specs.Checks.{access_check, is_no_flag, first_refusal, value_lines};
 ghost use Rattle.co_dict.specs.Shapes.{Shaped};
 ghost use Rattle.co_dict.specs.WriteCheck.{write_check};
@@ -18,7 +18,7 @@ use dict_values::Dict;
 
 /// Whether bytes of an entry's length are a value of it, within its limits.
 fn check_value(entry: &Entry, bytes: &[u8]) -> Result<(), Abort>
-    requires { is_no_flag bytes.now entry.now ≡ false → Fits entry.now.kind bytes.now }
+    requires { is_no_flag bytes.now entry.now ≡ false → IsValueOf entry.now.kind bytes.now }
     ensures { (shape : Shaped) (place : ℕ × ℕ) → map.get shape.entries place ≡ Some entry.now
         → result ≡ first_refusal (value_lines shape place bytes.now) }
 {

@@ -1,4 +1,5 @@
 pub mod KeepsMessages
 pub mod KeepsSound
 pub mod NodeLemmas
+mod SheetLemmas
 pub mod SoundLemmas

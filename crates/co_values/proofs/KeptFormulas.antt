@@ -1,5 +1,5 @@
 -- What is kept of a text gives what the text spells.
-use Rattle.std.proofs.Common.{◌≡◌, ℕ, ◌+◌, ◌*◌, ◌^◌, ◌==◌, ◌≤◌, ◌<◌, ℤ, pos, negsuc, Bool, true, false, List, [], ◌∷◌, take, drop, Option}
+use Rattle.std.proofs.Common.{◌≡◌, ℕ, ◌+◌, ◌*◌, ◌^◌, ◌==◌, ◌≤◌, ℤ, pos, negsuc, Bool, true, false, List, [], ◌∷◌, take, drop, Option}
 use Rattle.std.proofs.Common.{None, Some, refl, sym, ap, ◌∙◌, arith, suc, T, subst, eqb→eq, ltb-false}
 use Rattle.std.specs.Prelude.{if◌then◌else◌, nat_lt, ◌||◌, ◌&&◌, option_map, option_and_then, position, is_some}
 use Rattle.std.specs.Option.{option_or, option_map_or}
@@ -10,9 +10,9 @@ use Rattle.base.specs.Digits.{digits_number}
 use Rattle.byteorder.specs.Endian.{little_bytes}
 use Rattle.co_values.specs.declared.data_type.DataType.{DataType}
 use Rattle.co_values.specs.declared.form.Form.{Form}
-use Rattle.co_values.specs.declared.form.Form.TheVariants.{Flag, Signed, Unsigned, Characters, HexPairs, Unmodelled}
+use Rattle.co_values.specs.declared.form.Form.TheVariants.{Flag, Signed, Unsigned, Decimal, Characters, HexPairs, Unmodelled}
 use Rattle.co_values.specs.declared.form.Width.{Width}
-use Rattle.co_values.specs.declared.form.Width.TheVariants.{Bits8, Bits16, Bits32, Bits64}
+use Rattle.co_values.specs.declared.form.Width.TheVariants.{Bits8, Bits16, Bits24, Bits32, Bits40, Bits48, Bits56, Bits64}
 use Rattle.co_values.specs.declared.formula.Formula.{Formula}
 use Rattle.co_values.specs.declared.formula.Formula.TheVariants.{Nothing, Negative, Number, Hexadecimal, Node, NodePlus}
 use Rattle.co_values.specs.Number.{formula, formula_in, hexadecimal, is_node_id, number, number_of, digits_of, sum_of_terms}
@@ -189,6 +189,7 @@ value_by_formula kind text n m e = by (form kind)
         (option_and_then (unsigned_bits width) (option_map pos (hexadecimal text))))) e
     by (Unsigned width) = ap (λ o. option_map (little_bytes (octets width))
         (option_and_then (unsigned_bits width) o)) e
+    by (Decimal real) = refl
     by Characters = refl
     by HexPairs = refl
     by Unmodelled = refl
@@ -203,6 +204,7 @@ value_of_text kind text h n m = by (form kind) h
     by Flag h = cc
     by (Signed width) h = cc
     by (Unsigned width) h = cc
+    by (Decimal real) h = cc
     by Characters h = refl
     by HexPairs h = refl
     by Unmodelled h = refl
@@ -222,7 +224,11 @@ same_without_node kind text h node other = by (is_some (fixed_len kind)) refl h
 octets_within : (width : Width) → 2 ^ (8 * octets width) ≤ 2 ^ 64
 octets_within Bits8 = omega arith
 octets_within Bits16 = omega arith
+octets_within Bits24 = omega arith
 octets_within Bits32 = omega arith
+octets_within Bits40 = omega arith
+octets_within Bits48 = omega arith
+octets_within Bits56 = omega arith
 octets_within Bits64 = omega arith
 
 pub bits_of_digits : (text : List ℕ) (width : Width)

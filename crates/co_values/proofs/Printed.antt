@@ -11,15 +11,19 @@ use Rattle.base.specs.Bytes.{AreBytes}
 use Rattle.base.proofs.Little.{spelled_again}
 use Rattle.co_values.specs.declared.data_type.DataType.{DataType}
 use Rattle.co_values.specs.declared.form.Form.{Form}
-use Rattle.co_values.specs.declared.form.Form.TheVariants.{Flag, Signed, Unsigned, Characters, HexPairs, Unmodelled}
+use Rattle.co_values.specs.declared.form.Form.TheVariants.{Flag, Signed, Unsigned, Decimal, Characters, HexPairs, Unmodelled}
 use Rattle.co_values.specs.declared.form.Width.{Width}
-use Rattle.co_values.specs.declared.form.Width.TheVariants.{Bits8, Bits16, Bits32, Bits64}
+use Rattle.co_values.specs.declared.form.Width.TheVariants.{Bits8, Bits16, Bits24, Bits32, Bits40, Bits48, Bits56, Bits64}
 use Rattle.co_values.specs.Number.{number, formula}
-use Rattle.co_values.specs.Types.{form, octets}
+use Rattle.co_values.specs.Types.{form, octets, real_octets}
 use Rattle.co_values.specs.Values.{value, value_in, text_of_value, text_of_value_in, Fits, FitsForm, signed_bits}
 use Rattle.co_values.specs.Values.{signed_text_bits, pairs_of, longest_value, if_not_too_long}
 use Rattle.co_values.proofs.Decimal.{number-decimal, number-negative}
 use Rattle.co_values.proofs.Hexadecimal.{bytes_of_pairs-pairs_of, number-hexadecimal}
+use Rattle.real_texts.specs.declared.real.Real.{Real}
+use Rattle.real_texts.specs.declared.real.Real.TheVariants.{Real32, Real64}
+use Rattle.real_texts.specs.Reals.{format_of}
+use Rattle.real_texts.proofs.Finite.{printed_is_read}
 
 -- a number is a formula, the same at every node
 pub formula-number : (text : List ℕ) (node : ℕ) (z : ℤ) → number text ≡ Some z → formula text node ≡ Some z
@@ -35,32 +39,57 @@ half width = 2 ^ (8 * octets width - 1)
 pub two_halves : (width : Width) → 2 ^ (8 * octets width) ≡ 2 * half width
 two_halves Bits8 = refl
 two_halves Bits16 = refl
+two_halves Bits24 = refl
 two_halves Bits32 = refl
+two_halves Bits40 = refl
+two_halves Bits48 = refl
+two_halves Bits56 = refl
 two_halves Bits64 = refl
 
 pub half_most : (width : Width) → half width ≤ 2 ^ 63
 half_most Bits8 = lit≤ tt
 half_most Bits16 = lit≤ tt
+half_most Bits24 = lit≤ tt
 half_most Bits32 = lit≤ tt
+half_most Bits40 = lit≤ tt
+half_most Bits48 = lit≤ tt
+half_most Bits56 = lit≤ tt
 half_most Bits64 = lit≤ tt
 
-octets_most : (width : Width) → octets width ≤ 8
+pub octets_most : (width : Width) → octets width ≤ 8
 octets_most Bits8 = lit≤ tt
 octets_most Bits16 = lit≤ tt
+octets_most Bits24 = lit≤ tt
 octets_most Bits32 = lit≤ tt
+octets_most Bits40 = lit≤ tt
+octets_most Bits48 = lit≤ tt
+octets_most Bits56 = lit≤ tt
 octets_most Bits64 = lit≤ tt
 
 octets_some : (width : Width) → 0 < octets width
 octets_some Bits8 = lit< tt
 octets_some Bits16 = lit< tt
+octets_some Bits24 = lit< tt
 octets_some Bits32 = lit< tt
+octets_some Bits40 = lit< tt
+octets_some Bits48 = lit< tt
+octets_some Bits56 = lit< tt
 octets_some Bits64 = lit< tt
+
+-- a REAL has as many bytes as an integer of some width
+pub real_width : (real : Real) → (width : Width) × (real_octets real ≡ octets width)
+real_width Real32 = (Bits32, refl)
+real_width Real64 = (Bits64, refl)
 
 -- a byte has eight bits
 bytes_power : (width : Width) → 256 ^ octets width ≡ 2 ^ (8 * octets width)
 bytes_power Bits8 = refl
 bytes_power Bits16 = refl
+bytes_power Bits24 = refl
 bytes_power Bits32 = refl
+bytes_power Bits40 = refl
+bytes_power Bits48 = refl
+bytes_power Bits56 = refl
 bytes_power Bits64 = refl
 
 -- the number in bytes is below the width's power
@@ -84,7 +113,11 @@ twos-large : (width : Width) (x : ℕ) → half width ≤ x → x < 2 ^ (8 * oct
     → twos_complement (octets width) x ≡ negsuc (2 ^ (8 * octets width) - suc x)
 twos-large Bits8 x low high = rw (le-ltb x (half Bits8) low, lt-ltb x (2 ^ 8) high) refl
 twos-large Bits16 x low high = rw (le-ltb x (half Bits16) low, lt-ltb x (2 ^ 16) high) refl
+twos-large Bits24 x low high = rw (le-ltb x (half Bits24) low, lt-ltb x (2 ^ 24) high) refl
 twos-large Bits32 x low high = rw (le-ltb x (half Bits32) low, lt-ltb x (2 ^ 32) high) refl
+twos-large Bits40 x low high = rw (le-ltb x (half Bits40) low, lt-ltb x (2 ^ 40) high) refl
+twos-large Bits48 x low high = rw (le-ltb x (half Bits48) low, lt-ltb x (2 ^ 48) high) refl
+twos-large Bits56 x low high = rw (le-ltb x (half Bits56) low, lt-ltb x (2 ^ 56) high) refl
 twos-large Bits64 x low high = rw (le-ltb x (half Bits64) low, lt-ltb x (2 ^ 64) high) refl
 
 signed_bits-small : (width : Width) (x : ℕ) → x < half width → signed_bits width (pos x) ≡ Some x
@@ -151,6 +184,7 @@ form_read : (f : Form) (bytes : List ℕ) (node : ℕ) → AreBytes bytes → Fi
 form_read Flag bytes node h fits = flag_read bytes node fits
 form_read (Signed width) bytes node h fits = signed_read width bytes node h fits
 form_read (Unsigned width) bytes node h fits = unsigned_read width bytes node h fits
+form_read (Decimal real) bytes node h fits = printed_is_read (format_of real) bytes (h, fits.0) fits.1
 form_read Characters bytes node h fits = not_too_long bytes fits
 form_read HexPairs bytes node h fits = rw (bytes_of_pairs-pairs_of bytes h) (not_too_long bytes fits)
 form_read Unmodelled bytes node h fits = absurd fits

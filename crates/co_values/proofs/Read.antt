@@ -10,11 +10,15 @@ use Rattle.byteorder.specs.Numbers.{length-bytes_low_first}
 use Rattle.base.specs.Bytes.{AreBytes}
 use Rattle.co_values.specs.declared.data_type.DataType.{DataType}
 use Rattle.co_values.specs.declared.form.Form.{Form}
-use Rattle.co_values.specs.declared.form.Form.TheVariants.{Flag, Signed, Unsigned, Characters, HexPairs, Unmodelled}
+use Rattle.co_values.specs.declared.form.Form.TheVariants.{Flag, Signed, Unsigned, Decimal, Characters, HexPairs, Unmodelled}
 use Rattle.co_values.specs.Number.{formula}
-use Rattle.co_values.specs.Types.{form, octets}
-use Rattle.co_values.specs.Values.{value, value_in, Fits, FitsForm, flag_bits, unsigned_bits, signed_text_bits}
+use Rattle.co_values.specs.Types.{form, octets, real_octets}
+use Rattle.co_values.specs.Values.{value, value_in, Fits, FitsForm, IsLaidOut, IsValueOf, flag_bits, unsigned_bits}
+use Rattle.co_values.specs.Values.{signed_text_bits}
 use Rattle.co_values.specs.Values.{pair_number, bytes_of_pairs, longest_value, if_not_too_long}
+use Rattle.real_texts.specs.Reals.{format_of}
+use Rattle.real_texts.specs.Texts.{real_bits}
+use Rattle.real_texts.proofs.Finite.{what_is_read_is_finite}
 
 -- two lists that are both given are one
 given_same : (xs ys : List ℕ) → Some xs ≡ Some ys → xs ≡ ys
@@ -109,6 +113,9 @@ form_fits Flag text bytes node h e =
 form_fits (Signed width) text bytes node h e = number_fits (octets width) (signed_text_bits width text node) bytes e
 form_fits (Unsigned width) text bytes node h e = number_fits (octets width)
     (option_and_then (unsigned_bits width) (formula text node)) bytes e
+form_fits (Decimal real) text bytes node h e =
+    let is = number_fits (real_octets real) (real_bits (format_of real) text) bytes e in
+    (is.0, (is.1, what_is_read_is_finite (format_of real) text bytes e))
 form_fits Characters text bytes node h e = short_fits text bytes h e
 form_fits HexPairs text bytes node h e = pairs_fit (bytes_of_pairs text) bytes (paired_fits text) e
 form_fits Unmodelled text bytes node h e = cc
@@ -118,3 +125,18 @@ pub Fits-value : (kind : DataType) (text bytes : List ℕ) (node : ℕ) → AreB
     → Fits kind bytes
 unfolding value
 Fits-value kind text bytes node h e = form_fits (form kind) text bytes node h e
+
+-- ---- values that no text spells
+
+laid_out : (f : Form) (bytes : List ℕ) → FitsForm f bytes → IsLaidOut f bytes
+laid_out Flag bytes fits = fits
+laid_out (Signed width) bytes fits = fits
+laid_out (Unsigned width) bytes fits = fits
+laid_out (Decimal real) bytes fits = fits.0
+laid_out Characters bytes fits = fits
+laid_out HexPairs bytes fits = fits
+laid_out Unmodelled bytes fits = fits
+
+-- what a text can spell is a value
+pub IsValueOf-Fits : (kind : DataType) (bytes : List ℕ) → Fits kind bytes → IsValueOf kind bytes
+IsValueOf-Fits kind bytes fits = (fits.0, laid_out (form kind) bytes fits.1)

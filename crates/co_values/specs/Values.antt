@@ -11,10 +11,12 @@ use Rattle.base.specs.Bytes.{AreBytes}
 use Rattle.base.specs.Digits.{byte_digits}
 use Rattle.co_values.specs.declared.data_type.DataType.{DataType}
 use Rattle.co_values.specs.declared.form.Form.{Form}
-use Rattle.co_values.specs.declared.form.Form.TheVariants.{Flag, Signed, Unsigned, Characters, HexPairs, Unmodelled}
+use Rattle.co_values.specs.declared.form.Form.TheVariants.{Flag, Signed, Unsigned, Decimal, Characters, HexPairs, Unmodelled}
 use Rattle.co_values.specs.declared.form.Width.{Width}
 use Rattle.co_values.specs.Number.{formula, formula_in, has_node, hexadecimal}
-use Rattle.co_values.specs.Types.{fixed_len, form, octets}
+use Rattle.co_values.specs.Types.{fixed_len, form, octets, real_octets}
+use Rattle.real_texts.specs.Reals.{format_of, IsFinite}
+use Rattle.real_texts.specs.Texts.{exact_text, real_value}
 
 -- ---- from text
 
@@ -67,6 +69,7 @@ value_in Flag text node = option_map (little_bytes 1) (option_and_then flag_bits
 value_in (Signed width) text node = option_map (little_bytes (octets width)) (signed_text_bits width text node)
 value_in (Unsigned width) text node = option_map (little_bytes (octets width))
     (option_and_then (unsigned_bits width) (formula text node))
+value_in (Decimal real) text node = real_value (format_of real) text
 value_in Characters text node = if_not_too_long text
 value_in HexPairs text node = option_and_then if_not_too_long (bytes_of_pairs text)
 value_in Unmodelled text node = None
@@ -82,15 +85,30 @@ may_vary kind text = is_some (fixed_len kind) && has_node (formula_in text)
 -- ---- the bytes
 
 -- bytes, each below 256, that are a value laid out so
-abbrev pub FitsForm : Form → List ℕ → Type 0
-FitsForm Flag bytes = (length bytes ≡ 1) × (get_or bytes 0 0 < 2)
-FitsForm (Signed width) bytes = length bytes ≡ octets width
-FitsForm (Unsigned width) bytes = length bytes ≡ octets width
-FitsForm Characters bytes = length bytes ≤ longest_value
-FitsForm HexPairs bytes = length bytes ≤ longest_value
-FitsForm Unmodelled bytes = ⊥
+abbrev pub IsLaidOut : Form → List ℕ → Type 0
+IsLaidOut Flag bytes = (length bytes ≡ 1) × (get_or bytes 0 0 < 2)
+IsLaidOut (Signed width) bytes = length bytes ≡ octets width
+IsLaidOut (Unsigned width) bytes = length bytes ≡ octets width
+IsLaidOut (Decimal real) bytes = length bytes ≡ real_octets real
+IsLaidOut Characters bytes = length bytes ≤ longest_value
+IsLaidOut HexPairs bytes = length bytes ≤ longest_value
+IsLaidOut Unmodelled bytes = ⊥
 
--- bytes that are a value of a type
+-- bytes that are a value of a type: of a REAL an infinity or a NaN too, as a frame may bring them
+abbrev pub IsValueOf : DataType → List ℕ → Type 0
+IsValueOf kind bytes = AreBytes bytes × IsLaidOut (form kind) bytes
+
+-- the same of a value that a text can spell: no text spells an infinity or a NaN
+abbrev pub FitsForm : Form → List ℕ → Type 0
+FitsForm Flag bytes = IsLaidOut Flag bytes
+FitsForm (Signed width) bytes = IsLaidOut (Signed width) bytes
+FitsForm (Unsigned width) bytes = IsLaidOut (Unsigned width) bytes
+FitsForm (Decimal real) bytes = IsLaidOut (Decimal real) bytes × IsFinite (format_of real) bytes
+FitsForm Characters bytes = IsLaidOut Characters bytes
+FitsForm HexPairs bytes = IsLaidOut HexPairs bytes
+FitsForm Unmodelled bytes = IsLaidOut Unmodelled bytes
+
+-- bytes that are a value of a type, and that a text can spell
 abbrev pub Fits : DataType → List ℕ → Type 0
 Fits kind bytes = AreBytes bytes × FitsForm (form kind) bytes
 
@@ -99,6 +117,7 @@ abbrev pub zero_of_form : Form → List ℕ
 zero_of_form Flag = 0 ∷ []
 zero_of_form (Signed width) = replicate (octets width) 0
 zero_of_form (Unsigned width) = replicate (octets width) 0
+zero_of_form (Decimal real) = replicate (real_octets real) 0
 zero_of_form Characters = []
 zero_of_form HexPairs = []
 zero_of_form Unmodelled = []
@@ -112,6 +131,7 @@ abbrev pub number_in_form : Form → List ℕ → Option ℤ
 number_in_form Flag bytes = Some (pos (little_number 1 bytes))
 number_in_form (Signed width) bytes = Some (twos_complement (octets width) (little_number (octets width) bytes))
 number_in_form (Unsigned width) bytes = Some (pos (little_number (octets width) bytes))
+number_in_form (Decimal real) bytes = None
 number_in_form Characters bytes = None
 number_in_form HexPairs bytes = None
 number_in_form Unmodelled bytes = None
@@ -131,13 +151,14 @@ abbrev pub text_of_value_in : Form → List ℕ → List ℕ
 text_of_value_in Flag bytes = decimal (little_number 1 bytes)
 text_of_value_in (Signed width) bytes = signed_decimal (twos_complement (octets width)
     (little_number (octets width) bytes))
--- the pairs of the bytes, the highest first, are the number's 2, 4, 8 or 16 digits
+-- the pairs of the bytes, the highest first, are the number's 2 to 16 digits, two for each byte
 text_of_value_in (Unsigned width) bytes = codes "0x" ++ pairs_of (reverse bytes)
+text_of_value_in (Decimal real) bytes = exact_text (format_of real) bytes
 text_of_value_in Characters bytes = bytes
 text_of_value_in HexPairs bytes = pairs_of bytes
 text_of_value_in Unmodelled bytes = []
 
--- the text of a value in a DCF (CiA 306): 0 or 1, decimal for INTEGERn, `0x` and all digits for UNSIGNEDn, upper-case
--- pairs for bytes (own)
+-- the text of a value in a DCF (CiA 306): 0 or 1, decimal for INTEGERn, `0x` and all digits for UNSIGNEDn, the exact
+-- decimal number for REALn, upper-case pairs for bytes (own)
 unfoldable pub text_of_value : DataType → List ℕ → List ℕ
 text_of_value kind bytes = text_of_value_in (form kind) bytes

@@ -50,6 +50,6 @@ pub fn integer_of(kind: DataType, text: &Spelling<'_>, node: u8) -> Option<i128>
             let bits = unsigned_text_bits(width, text, node)?;
             Some(unsigned_number(width.octets(), bits))
         }
-        Form::Characters | Form::HexPairs | Form::Unmodelled => None,
+        Form::Decimal(_) | Form::Characters | Form::HexPairs | Form::Unmodelled => None,
     }
 }

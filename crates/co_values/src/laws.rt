@@ -7,7 +7,7 @@ ghost use Rattle.byteorder.specs.Endian.{little_bytes, little_number};
 ghost use Rattle.base.specs.Bytes.{AreBytes};
 ghost use Rattle.base.specs.Blanks.{without_first_blanks};
 ghost use Rattle.co_values.specs.Number.{number, formula, in_range, hexadecimal, node_plus};
-ghost use Rattle.co_values.specs.Values.{bytes_of_pairs, pairs_of, value, text_of_value, Fits, signed_bits};
+ghost use Rattle.co_values.specs.Values.{bytes_of_pairs, pairs_of, value, text_of_value, Fits, IsValueOf, signed_bits};
 ghost use Rattle.co_values.specs.Types.{form, octets};
 ghost use Rattle.co_values.specs.declared.form.Form.TheVariants.{Signed};
 ghost use Rattle.co_values.specs.declared.form.Width.{Width};
@@ -39,6 +39,11 @@ pub fn printed_is_read()
 pub fn what_is_read_fits()
     ensures { (kind : DataType) (text bytes : List ℕ) (node : ℕ) → AreBytes text
         → value kind text node ≡ Some bytes → Fits kind bytes }
+{}
+
+/// What a text can spell as a value of a type is a value of it.
+pub fn what_fits_is_a_value()
+    ensures { (kind : DataType) (bytes : List ℕ) → Fits kind bytes → IsValueOf kind bytes }
 {}
 
 /// A number gives itself at every node, `$NODEID` the node's number, and `$NODEID+` the sum with

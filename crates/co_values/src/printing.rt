@@ -7,6 +7,7 @@ use crate::form::Form;
 use crate::hex::push_pairs;
 use crate::value::Value;
 use byteorder::{ByteOrder, LittleEndian};
+use real_texts::real_text;
 use std::alloc::{AllocError, Global};
 
 /// `0x` and the digits of an unsigned integer.
@@ -35,6 +36,7 @@ fn text_in(alloc: Global, form: Form, bytes: &[u8]) -> Result<Vec<u8>, AllocErro
                 .into_bytes(),
         ),
         Form::Unsigned(_) => unsigned_text(alloc, bytes),
+        Form::Decimal(real) => real_text(alloc, real, bytes),
         Form::Characters => Vec::from_slice(alloc, bytes),
         Form::HexPairs => push_pairs(Vec::new(alloc), bytes),
         Form::Unmodelled => unreachable!(),
@@ -42,9 +44,10 @@ fn text_in(alloc: Global, form: Form, bytes: &[u8]) -> Result<Vec<u8>, AllocErro
 }
 
 /// The text of a value in a DCF (CiA 306): `0` or `1` for BOOLEAN, decimal digits for INTEGERn,
-/// `0x` and 2, 4, 8 or 16 upper-case digits for UNSIGNEDn, the bytes of a VISIBLE_STRING, and pairs
-/// of upper-case digits for OCTET_STRING and DOMAIN. `value_of` reads it back at every node. Takes
-/// time and memory linear in the value.
+/// `0x` and 2 to 16 upper-case digits, two for each byte, for UNSIGNEDn, the exact decimal number for
+/// REAL32 and REAL64, the bytes of a VISIBLE_STRING, and pairs of upper-case digits for OCTET_STRING
+/// and DOMAIN. `value_of` reads it back at every node. Takes time and memory linear in the value, and
+/// for a REAL those of `real_text`.
 #[tactic(auto, unfolding(crate::specs::Values::text_of_value))]
 pub fn hex_text(alloc: Global, value: &Value) -> Result<Vec<u8>, AllocError>
     requires { Fits value.now.kind value.now.bytes }

@@ -14,7 +14,11 @@ fn half(width: Width) -> u128
     match width {
         Width::Bits8 => 0x80,
         Width::Bits16 => 0x8000,
+        Width::Bits24 => 0x80_0000,
         Width::Bits32 => 0x8000_0000,
+        Width::Bits40 => 0x80_0000_0000,
+        Width::Bits48 => 0x8000_0000_0000,
+        Width::Bits56 => 0x80_0000_0000_0000,
         Width::Bits64 => 0x8000_0000_0000_0000,
     }
 }

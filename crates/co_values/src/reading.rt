@@ -14,6 +14,7 @@ use crate::range::{flag_bits, signed_bits, unsigned_bits};
 use crate::spelling::Spelling;
 use crate::value::{LONGEST_VALUE, Value};
 use base::Octets;
+use real_texts::read_real;
 use std::alloc::{AllocError, Global};
 
 /// The bytes of a number, the lowest first.
@@ -124,6 +125,7 @@ fn bytes_of(
             unsigned_text_bits(width, text, node),
             width.octets(),
         ),
+        Form::Decimal(real) => number_bytes(alloc, read_real(real, text.text()), real.octets()),
         Form::Characters => characters(alloc, text.text()),
         Form::HexPairs => pairs(alloc, text.text()),
         Form::Unmodelled => Ok(None),
@@ -138,6 +140,7 @@ fn has_bytes(form: Form, text: &Spelling<'_>, node: u8) -> bool
         Form::Flag => flag_text_bits(text, node).is_some(),
         Form::Signed(width) => signed_text_bits(width, text, node).is_some(),
         Form::Unsigned(width) => unsigned_text_bits(width, text, node).is_some(),
+        Form::Decimal(real) => read_real(real, text.text()).is_some(),
         Form::Characters => text.text().len() <= LONGEST_VALUE,
         Form::HexPairs => are_pairs(text.text()),
         Form::Unmodelled => false,
@@ -145,7 +148,7 @@ fn has_bytes(form: Form, text: &Spelling<'_>, node: u8) -> bool
 }
 
 /// Whether a text spells a value of a type at a node, as `value_of` reads it. Takes constant time, and for
-/// OCTET_STRING and DOMAIN time linear in the text. Needs no memory.
+/// REAL32, REAL64, OCTET_STRING and DOMAIN time linear in the text. Needs no memory.
 #[tactic(auto, unfolding(crate::specs::Values::value))]
 pub fn is_spelled(kind: DataType, text: &Spelling<'_>, node: u8) -> bool
     ensures { result ≡ is_some (value kind text.now node) }
@@ -153,8 +156,8 @@ pub fn is_spelled(kind: DataType, text: &Spelling<'_>, node: u8) -> bool
     has_bytes(kind.form(), text, node)
 }
 
-/// The value that a text spells at a node, as `value_of` reads it. Takes constant time where the values of the
-/// type are numbers, and else time and memory linear in the text.
+/// The value that a text spells at a node, as `value_of` reads it. Takes constant time for BOOLEAN and the
+/// integers, and else time linear in the text; memory linear in the value.
 #[tactic(auto, unfolding(crate::specs::Values::value))]
 pub fn spelled_value(
     alloc: Global,
@@ -175,8 +178,9 @@ pub fn spelled_value(
 
 /// The value that a text of an EDS or DCF (CiA 306) spells at a node, as its data type reads it:
 /// BOOLEAN and integers by a formula in range, INTEGERn also by its two's complement in hexadecimal
-/// digits, VISIBLE_STRING by its bytes, OCTET_STRING and DOMAIN by pairs of hexadecimal digits, up
-/// to 512 bytes. `None` where it spells none, for which no memory is needed. Takes time and memory
+/// digits, REAL32 and REAL64 by a decimal number as the nearest value, where that is finite,
+/// VISIBLE_STRING by its bytes, OCTET_STRING and DOMAIN by pairs of hexadecimal digits, up to 512
+/// bytes. `None` where it spells none, for which no memory is needed. Takes time and memory
 /// linear in the text.
 pub fn value_of(
     alloc: Global,

@@ -1,7 +1,7 @@
 //! Values.
 
 ghost use Rattle.std.specs.Prelude.{◌≡◌, IfOk};
-ghost use Rattle.co_values.specs.Values.{Fits, number_in as number_of_bytes, zero_value};
+ghost use Rattle.co_values.specs.Values.{IsValueOf, number_in as number_of_bytes, zero_value};
 
 use crate::data_type::DataType;
 use crate::form::Form;
@@ -23,14 +23,14 @@ pub struct Value {
 /// other types.
 #[tactic(auto, unfolding(crate::specs::Values::number_in))]
 pub fn number_in(kind: DataType, bytes: &[u8]) -> Option<i128>
-    requires { Fits kind bytes.now }
+    requires { IsValueOf kind bytes.now }
     ensures { result ≡ number_of_bytes kind bytes.now }
 {
     match kind.form() {
         Form::Flag => Some(i128::from(LittleEndian::read_uint(bytes, 1))),
         Form::Signed(width) => Some(i128::from(LittleEndian::read_int(bytes, width.octets()))),
         Form::Unsigned(width) => Some(i128::from(LittleEndian::read_uint(bytes, width.octets()))),
-        Form::Characters | Form::HexPairs | Form::Unmodelled => None,
+        Form::Decimal(_) | Form::Characters | Form::HexPairs | Form::Unmodelled => None,
     }
 }
 

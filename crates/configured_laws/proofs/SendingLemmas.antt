@@ -15,7 +15,6 @@ use Rattle.cia301.specs.CobIds.{is_valid, off_bit}
 use Rattle.cia301.specs.PdoObjects.{is_of_pdos, mapping_object, rpdo_object, tpdo_object}
 use Rattle.concise_dcf.specs.declared.write.Write.{Write}
 use Rattle.concise_dcf.specs.Writes.{place_of}
-use Rattle.ini_text.specs.Content.{Section}
 use Rattle.co_dict.specs.Shapes.{Shaped}
 use Rattle.co_dict.specs.Values.{Values, number_at}
 use Rattle.eds_device.specs.Entries.{defaults_of, shape_of}
@@ -49,8 +48,10 @@ use Rattle.std.proofs.lemmas.Bool.{cases_eq}
 use Rattle.std.proofs.lemmas.List.Elements.{All-cons, All-nil}
 use Rattle.cia301.specs.CobIds.{identifier_in, is_of_base_frames, is_restricted}
 use Rattle.co_values.specs.declared.data_type.DataType.{DataType}
-use Rattle.co_values.specs.declared.data_type.DataType.TheVariants.{Boolean, Integer8, Integer16, Integer32, Integer64}
-use Rattle.co_values.specs.declared.data_type.DataType.TheVariants.{Unsigned8, Unsigned16, Unsigned32, Unsigned64}
+use Rattle.co_values.specs.declared.data_type.DataType.TheVariants.{Boolean, Integer8, Integer16, Integer24, Integer32}
+use Rattle.co_values.specs.declared.data_type.DataType.TheVariants.{Integer40, Integer48, Integer56, Integer64, Unsigned8}
+use Rattle.co_values.specs.declared.data_type.DataType.TheVariants.{Unsigned16, Unsigned24, Unsigned32, Unsigned40}
+use Rattle.co_values.specs.declared.data_type.DataType.TheVariants.{Unsigned48, Unsigned56, Unsigned64, Real32, Real64}
 use Rattle.co_values.specs.declared.data_type.DataType.TheVariants.{VisibleString, OctetString, Domain, NotModelled}
 use Rattle.co_values.specs.declared.form.Width.TheVariants.{Bits8, Bits32}
 use Rattle.co_values.specs.Types.{form}
@@ -115,11 +116,21 @@ is_thirty_two Unsigned32 is = refl
 is_thirty_two Boolean is = cc
 is_thirty_two Integer8 is = cc
 is_thirty_two Integer16 is = cc
+is_thirty_two Integer24 is = cc
 is_thirty_two Integer32 is = cc
+is_thirty_two Integer40 is = cc
+is_thirty_two Integer48 is = cc
+is_thirty_two Integer56 is = cc
 is_thirty_two Integer64 is = cc
 is_thirty_two Unsigned8 is = cc
 is_thirty_two Unsigned16 is = cc
+is_thirty_two Unsigned24 is = cc
+is_thirty_two Unsigned40 is = cc
+is_thirty_two Unsigned48 is = cc
+is_thirty_two Unsigned56 is = cc
 is_thirty_two Unsigned64 is = cc
+is_thirty_two Real32 is = cc
+is_thirty_two Real64 is = cc
 is_thirty_two VisibleString is = cc
 is_thirty_two OctetString is = cc
 is_thirty_two Domain is = cc
@@ -130,11 +141,21 @@ is_eight Unsigned8 is = refl
 is_eight Boolean is = cc
 is_eight Integer8 is = cc
 is_eight Integer16 is = cc
+is_eight Integer24 is = cc
 is_eight Integer32 is = cc
+is_eight Integer40 is = cc
+is_eight Integer48 is = cc
+is_eight Integer56 is = cc
 is_eight Integer64 is = cc
 is_eight Unsigned16 is = cc
+is_eight Unsigned24 is = cc
+is_eight Unsigned40 is = cc
+is_eight Unsigned48 is = cc
+is_eight Unsigned56 is = cc
 is_eight Unsigned32 is = cc
 is_eight Unsigned64 is = cc
+is_eight Real32 is = cc
+is_eight Real64 is = cc
 is_eight VisibleString is = cc
 is_eight OctetString is = cc
 is_eight Domain is = cc
@@ -202,7 +223,7 @@ module _ (project : Content) (id : ℕ) (m : Member) (three : is_three project.v
   plan = plan_of_project project
 
   abbrev device : AsMade
-  device = as_made m.sections id
+  device = as_made m.sheet id
 
   abbrev writes : List Write
   writes = writes_of project m id
@@ -339,10 +360,10 @@ module _ (project : Content) (id : ℕ) (m : Member) (three : is_three project.v
 
     -- so what is mapped stays
     mapping_stays : (place : ℕ × ℕ) → place.0 ≡ mapping_object object
-        → get (values_after project m id) place ≡ get (defaults_of m.sections id) place
+        → get (values_after project m id) place ≡ get (defaults_of m.sheet id) place
     unfolding values_after
     mapping_stays place at =
-        left_alone (defaults_of m.sections id) place writes
+        left_alone (defaults_of m.sheet id) place writes
         (All-weaker (Contains writes) (λ (w : Write). w.index ≡ place.0 → ⊥)
         (λ w has is. apart w (is ∙ at) (off_index object w (to_it w has (inr (is ∙ at))))) writes
         (All-contains_itself writes))
@@ -352,10 +373,10 @@ module _ (project : Content) (id : ℕ) (m : Member) (three : is_three project.v
 
     -- a TPDO that isn't switched off keeps its COB-ID
     cob_stays : is_switched_off device object ≡ false
-        → get (values_after project m id) (object, 1) ≡ get (defaults_of m.sections id) (object, 1)
+        → get (values_after project m id) (object, 1) ≡ get (defaults_of m.sheet id) (object, 1)
     unfolding values_after unused_writes
     cob_stays stays =
-        left_alone (defaults_of m.sections id) (object, 1) writes
+        left_alone (defaults_of m.sheet id) (object, 1) writes
         (All-weaker (Contains writes) (λ (w : Write). w.index ≡ object → ⊥)
         (λ w has is. nothing w (to_it w has (inl is))) writes (All-contains_itself writes))
       where
@@ -399,11 +420,11 @@ module _ (project : Content) (id : ℕ) (m : Member) (three : is_three project.v
     cob_off : is_switched_off device object ≡ true → get (values_after project m id) (object, 1) ≡ Some off.bytes
     unfolding values_after writes_of
     cob_off is =
-        stands (object, 1) off.bytes (defaults_of m.sections id) writes off
+        stands (object, 1) off.bytes (defaults_of m.sheet id) writes off
         (All-weaker (Contains writes) (Same (object, 1) off.bytes)
         (λ w has at. off_alone w (to_it w has (inl (ap (λ (p : ℕ × ℕ). p.0) at)))) writes (All-contains_itself writes))
-        (subst (λ (b : Bool). Contains (node_writes b plan m.node.params m.sections id) off) (sym three)
-        (unused_written plan m.node.params m.sections id off (number, numbered, inl (by_none, off_there is))))
+        (subst (λ (b : Bool). Contains (node_writes b plan m.node.params m.sheet id) off) (sym three)
+        (unused_written plan m.node.params m.sheet id off (number, numbered, inl (by_none, off_there is))))
         refl
 
     not_valid : is_switched_off device object ≡ true
@@ -474,7 +495,7 @@ module _ (project : Content) (id : ℕ) (m : Member) (three : is_three project.v
     found on = by (is_switched_off device object) refl
       where
         shape : Shaped
-        shape = shape_of m.sections id
+        shape = shape_of m.sheet id
 
         values : Values
         values = values_after project m id
@@ -498,9 +519,9 @@ module _ (project : Content) (id : ℕ) (m : Member) (three : is_three project.v
             listed (sends (has_thirty_two device (object, 1) (cob_there shape objects))
             (has_eight device (mapping_object object, 0) (count_there shape objects))
             (subst (λ (n : ℕ). has_frames n ≡ true)
-            (same_number 4 values (defaults_of m.sections id) (object, 1) (cob_stays is)) frames)
+            (same_number 4 values (defaults_of m.sheet id) (object, 1) (cob_stays is)) frames)
             (subst (λ (n : ℕ). nat_lt 0 n ≡ true)
-            (same_number 1 values (defaults_of m.sections id) (mapping_object object, 0)
+            (same_number 1 values (defaults_of m.sheet id) (mapping_object object, 0)
             (mapping_stays (mapping_object object, 0) refl)) (counted shape values mapped)) is)
 
 pub sends_or_told : (project : Content) (id : ℕ) (m : Member) (number : ℕ) → is_three project.version ≡ true
@@ -513,7 +534,7 @@ sends_or_told project id m number three node planned numbered on =
         → SendsBy project id number ⊎ SendsUnplanned project id number
     by true is = inl (user project id m three planned number is)
     by false is = inr (record {
-      device = as_made m.sections id;
+      device = as_made m.sheet id;
       made = record { member = m; rules = three; is = node.there; made = refl };
       found = found project id m three planned number numbered is on;
     })

@@ -11,7 +11,7 @@ use Rattle.project_plan.specs.Values.{values_after}
 
 -- A TPDO OF A NODE IS ON once the node is configured: it works by the values that its writes leave over its defaults
 abbrev pub is_on : Content → Member → ℕ → ℕ → Bool
-is_on project m id number = works (shape_of m.sections id) (values_after project m id) (tpdo_object number)
+is_on project m id number = works (shape_of m.sheet id) (values_after project m id) (tpdo_object number)
 
 -- by it the node sends a message that the project's plan finds clean
 abbrev pub SendsBy : Content → ℕ → ℕ → Type 0

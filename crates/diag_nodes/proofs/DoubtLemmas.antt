@@ -20,12 +20,12 @@ use Rattle.eds_device.specs.Places.{pairs_of}
 -- ---- nothing is said of a default that isn't doubtful
 
 module _ (e : ℕ × Member) where
-  certain : (place : ℕ × ℕ) → is_doubtful e.1.sections place ≡ false → unreadable_default e place ≡ None
+  certain : (place : ℕ × ℕ) → is_doubtful e.1.sheet place ≡ false → unreadable_default e place ≡ None
   unfolding unreadable_default is_doubtful
-  certain place h = by (default_text e.1.sections place.0 place.1) refl
+  certain place h = by (default_text e.1.sheet place.0 place.1) refl
     where
       kind : DataType
-      kind = kind_at e.1.sections place
+      kind = kind_at e.1.sheet place
 
       said : Bool → Option Diag
       said none = if none then Some (diagnostic Unreadable (of.Default e.0 place.0 place.1)) else None
@@ -45,25 +45,25 @@ module _ (e : ℕ × Member) where
           ap (λ o. said (is_modelled kind && is_none o)) (same_without_node kind text at e.0 1 ∙ is)
           ∙ never (is_modelled kind)
 
-      by : (o : Option (List ℕ)) → default_text e.1.sections place.0 place.1 ≡ o → unreadable_default e place ≡ None
+      by : (o : Option (List ℕ)) → default_text e.1.sheet place.0 place.1 ≡ o → unreadable_default e place ≡ None
       by None is = ap of_text is
       by (Some text) is = ap of_text is
           ∙ none text (may_vary kind text) refl (value kind text 1) refl
           (sym (ap (λ o. option_map_or (λ t. may_vary kind t || is_none (value kind t 1)) o false) is) ∙ h)
 
-  found_among : (places : List (ℕ × ℕ)) → filter_map (unreadable_default e) (filter (is_doubtful e.1.sections) places)
+  found_among : (places : List (ℕ × ℕ)) → filter_map (unreadable_default e) (filter (is_doubtful e.1.sheet) places)
       ≡ filter_map (unreadable_default e) places
   found_among [] = refl
-  found_among (p ∷ ps) = by (is_doubtful e.1.sections p) refl (found_among ps)
+  found_among (p ∷ ps) = by (is_doubtful e.1.sheet p) refl (found_among ps)
     where
-      by : (b : Bool) → is_doubtful e.1.sections p ≡ b
-          → filter_map (unreadable_default e) (filter (is_doubtful e.1.sections) ps) ≡ filter_map (unreadable_default e) ps
-          → filter_map (unreadable_default e) (cond b (p ∷ filter (is_doubtful e.1.sections) ps)
-          (filter (is_doubtful e.1.sections) ps))
+      by : (b : Bool) → is_doubtful e.1.sheet p ≡ b
+          → filter_map (unreadable_default e) (filter (is_doubtful e.1.sheet) ps) ≡ filter_map (unreadable_default e) ps
+          → filter_map (unreadable_default e) (cond b (p ∷ filter (is_doubtful e.1.sheet) ps)
+          (filter (is_doubtful e.1.sheet) ps))
           ≡ cons_option (unreadable_default e p) (filter_map (unreadable_default e) ps)
       by true is rest = ap (cons_option (unreadable_default e p)) rest
       by false is rest = rest ∙ sym (ap (λ o. cons_option o (filter_map (unreadable_default e) ps)) (certain p is))
 
-  pub doubts_suffice : filter_map (unreadable_default e) (doubtful_places e.1.sections) ≡ unreadable_defaults e
+  pub doubts_suffice : filter_map (unreadable_default e) (doubtful_places e.1.sheet) ≡ unreadable_defaults e
   unfolding unreadable_defaults
-  doubts_suffice = found_among (pairs_of e.1.sections)
+  doubts_suffice = found_among (pairs_of e.1.sheet.sections)

@@ -57,7 +57,7 @@ module _ (a b : Numbers) (agree : Agree a b) where
 module _ (p : Content) where
   agree : (e : ℕ × Member) → Agree (numbers_by (is_three p.version) (plan_of_project p) e) (numbers_of p e)
   unfolding number_after values_after writes_of
-  agree e width place wanted = number_wanted_by (plan_of_project p) e.1.node.params e.1.sections e.0 (is_three p.version) width place wanted
+  agree e width place wanted = number_wanted_by (plan_of_project p) e.1.node.params e.1.sheet e.0 (is_three p.version) width place wanted
 
   by_plan : {X : Type 0} (f : (ℕ × Member → Numbers) → ℕ × Member → List X) (plan : List PlannedMessage)
       → plan ≡ plan_of_project p
@@ -69,13 +69,13 @@ module _ (p : Content) where
     unfolding identifiers
     identifiers_kept = by_plan identifiers_in plan is
         ∙ (λ i. flat_map (λ (e : ℕ × Member). filter_map (λ place. same_identifier
-        (numbers_by (is_three p.version) (plan_of_project p) e) (numbers_of p e) (agree e) place i) (pairs_of e.1.sections)) (members p))
+        (numbers_by (is_three p.version) (plan_of_project p) e) (numbers_of p e) (agree e) place i) (pairs_of e.1.sheet.sections)) (members p))
 
     pub consumers_kept : flat_map (consumers_in (numbers_by (is_three p.version) plan)) (members p) ≡ consumers p
     unfolding consumers
     consumers_kept = by_plan consumers_in plan is
         ∙ (λ i. flat_map (λ (e : ℕ × Member). filter_map (λ place. same_consumer
-        (numbers_by (is_three p.version) (plan_of_project p) e) (numbers_of p e) (agree e) e.0 place i) (pairs_of e.1.sections)) (members p))
+        (numbers_by (is_three p.version) (plan_of_project p) e) (numbers_of p e) (agree e) e.0 place i) (pairs_of e.1.sheet.sections)) (members p))
 
     pub times_kept : flat_map (times_in (numbers_by (is_three p.version) plan)) (members p) ≡ times p
     times_kept = by_plan times_in plan is

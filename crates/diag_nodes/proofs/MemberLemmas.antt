@@ -10,21 +10,21 @@ use Rattle.std.specs.Option.{option_map_or}
 use Rattle.std.proofs.lemmas.Cmp.{nat_cmp_total}
 use Rattle.std.proofs.lemmas.List.Elements.{All-contains}
 use Rattle.std.proofs.lemmas.Map.Lookups.{CmpEqualImpliesEq, exact_unsigned}
-use Rattle.ini_text.specs.Content.{Section}
 use Rattle.base.proofs.EachLemmas.{all_entries, each_there}
 use Rattle.base.proofs.TableLemmas.{alike}
 use Rattle.co_values.specs.declared.form.Width.{Width}
 use Rattle.co_values.specs.declared.data_type.DataType.TheVariants.{NotModelled}
-use Rattle.eds_device.specs.Described.{Described, description_of, description_by, kind_at, unless_empty, value_by}
+use Rattle.eds_device.specs.Described.{Described, description_of, description_by, kind_at, known_as, unless_empty, value_by}
 use Rattle.eds_device.specs.Described.{value_text}
 use Rattle.eds_device.specs.Origins.{Origin, origin_of}
 use Rattle.eds_device.specs.Places.{pairs_of}
+use Rattle.eds_device.specs.Sheets.{Sheet}
 use Rattle.eds_places.proofs.GivenLemmas.{rules_give}
 use Rattle.node_parameters.proofs.WrittenLemmas.{Contains-filter_map, from_filter_map}
 use Rattle.pdo_stations.specs.Devices.{is_unsigned}
 use Rattle.co_project.specs.declared.node.Node.{Node}
 use Rattle.co_project.specs.Project.{Content}
-use Rattle.project_plan.specs.Network.{Member, member_at, member_by, members, with_sections}
+use Rattle.project_plan.specs.Network.{Member, member_at, member_by, members, with_sheet}
 use Rattle.diag_lines.proofs.ListLemmas.{Contains-first, Contains-later}
 
 -- ---- tables
@@ -58,22 +58,22 @@ pub member_found : (p : Content) (e : ℕ × Member) → Contains (members p) e 
 unfolding members member_at
 member_found p e c =
     let from = from_filter_map (member_by p) (entries p.nodes) e c in
-    by from.0 (at_entry nat_cmp_total exact_unsigned p.nodes from.0 from.1) (with_sections p from.0.1) refl from.2
+    by from.0 (at_entry nat_cmp_total exact_unsigned p.nodes from.0 from.1) (with_sheet p from.0.1) refl from.2
   where
-    by : (x : ℕ × Node) → get p.nodes x.0 ≡ Some x.1 → (o : Option Member) → with_sections p x.1 ≡ o
+    by : (x : ℕ × Node) → get p.nodes x.0 ≡ Some x.1 → (o : Option Member) → with_sheet p x.1 ≡ o
         → option_map (λ m. (x.0, m)) o ≡ Some e
-        → option_and_then (with_sections p) (get p.nodes e.0) ≡ Some e.1
+        → option_and_then (with_sheet p) (get p.nodes e.0) ≡ Some e.1
     by x there None is h = cc
     by x there (Some m) is h =
         let same : ◌≡◌ {A = ℕ × Member} (x.0, m) e = cc in
-        subst (λ (y : ℕ × Member). option_and_then (with_sections p) (get p.nodes y.0)
-        ≡ Some y.1) same (ap (option_and_then (with_sections p)) there ∙ is)
+        subst (λ (y : ℕ × Member). option_and_then (with_sheet p) (get p.nodes y.0)
+        ≡ Some y.1) same (ap (option_and_then (with_sheet p)) there ∙ is)
 
 pub member_listed : (p : Content) (n : ℕ) (m : Member) → member_at p n ≡ Some m → Contains (members p) (n, m)
 unfolding members member_at
 member_listed p n m h = by (get p.nodes n) refl h
   where
-    by : (o : Option Node) → get p.nodes n ≡ o → option_and_then (with_sections p) o ≡ Some m
+    by : (o : Option Node) → get p.nodes n ≡ o → option_and_then (with_sheet p) o ≡ Some m
         → Contains {X = ℕ × Member} (filter_map (member_by p) (entries p.nodes)) (n, m)
     by None is h = cc
     by (Some node) is h =
@@ -82,34 +82,35 @@ member_listed p n m h = by (get p.nodes n) refl h
 
 -- ---- places
 
-module _ (ss : List Section) (place : ℕ × ℕ) where
-  pub described_there : (d : Described) → description_of ss place.0 place.1 ≡ Some d → Contains (pairs_of ss) place
+module _ (sheet : Sheet) (place : ℕ × ℕ) where
+  pub described_there : (d : Described) → description_of sheet place.0 place.1 ≡ Some d → Contains (pairs_of sheet.sections) place
   unfolding description_of
-  described_there d h = by (origin_of ss place.0 place.1) refl h
+  described_there d h = by (origin_of sheet.sections place.0 place.1) refl h
     where
-      by : (o : Option Origin) → origin_of ss place.0 place.1 ≡ o → option_map (description_by place.1) o ≡ Some d
-          → Contains (pairs_of ss) place
+      by : (o : Option Origin) → origin_of sheet.sections place.0 place.1 ≡ o
+          → option_map (λ origin. known_as sheet.is_three (description_by place.1 origin)) o ≡ Some d
+          → Contains (pairs_of sheet.sections) place
       by None is h = cc
-      by (Some origin) is h = rules_give ss place.0 place.1 origin is
+      by (Some origin) is h = rules_give sheet.sections place.0 place.1 origin is
 
-  pub value_there : (text : List ℕ) → value_text ss place.0 place.1 ≡ Some text → Contains (pairs_of ss) place
+  pub value_there : (text : List ℕ) → value_text sheet.sections place.0 place.1 ≡ Some text → Contains (pairs_of sheet.sections) place
   unfolding value_text
-  value_there text h = by (origin_of ss place.0 place.1) refl h
+  value_there text h = by (origin_of sheet.sections place.0 place.1) refl h
     where
-      by : (o : Option Origin) → origin_of ss place.0 place.1 ≡ o
-          → option_and_then unless_empty (option_and_then (value_by ss place.0 place.1) o) ≡ Some text
-          → Contains (pairs_of ss) place
+      by : (o : Option Origin) → origin_of sheet.sections place.0 place.1 ≡ o
+          → option_and_then unless_empty (option_and_then (value_by sheet.sections place.0 place.1) o) ≡ Some text
+          → Contains (pairs_of sheet.sections) place
       by None is h = cc
-      by (Some origin) is h = rules_give ss place.0 place.1 origin is
+      by (Some origin) is h = rules_give sheet.sections place.0 place.1 origin is
 
   -- only what is described has a type
-  pub unsigned_there : (width : Width) → is_unsigned (kind_at ss place) width ≡ true
-      → Contains (pairs_of ss) place
+  pub unsigned_there : (width : Width) → is_unsigned (kind_at sheet place) width ≡ true
+      → Contains (pairs_of sheet.sections) place
   unfolding kind_at
-  unsigned_there width h = by (description_of ss place.0 place.1) refl h
+  unsigned_there width h = by (description_of sheet place.0 place.1) refl h
     where
-      by : (o : Option Described) → description_of ss place.0 place.1 ≡ o
+      by : (o : Option Described) → description_of sheet place.0 place.1 ≡ o
           → is_unsigned (option_map_or (λ (d : Described). d.kind) o NotModelled) width ≡ true
-          → Contains (pairs_of ss) place
+          → Contains (pairs_of sheet.sections) place
       by None is h = cc
       by (Some d) is h = described_there d is

@@ -5,10 +5,9 @@ use Rattle.std.specs.Prelude.{option_map}
 use Rattle.std.specs.FinMap.{entries}
 use Rattle.std.specs.List.{cons_option, flat_map}
 use Rattle.std.specs.Option.{option_map_or}
-use Rattle.ini_text.specs.Content.{Content as DataSheet, content_of}
+use Rattle.eds_device.specs.Sheets.{Sheet}
 use Rattle.co_project.specs.declared.node.Node.{Node}
 use Rattle.co_project.specs.Project.{Content}
-use Rattle.co_project.specs.Tables.{text_at}
 use Rattle.project_plan.specs.Network.{Member, device_at, member_by, member_of, members}
 use Rattle.diag_nodes.specs.Devices.{of_node}
 
@@ -34,17 +33,16 @@ module _ {X : Type 0} (f : ℕ × Member → List X) (p : Content) where
   members_among : (es : List (ℕ × Node)) → flat_map (of_node f p) es
       ≡ flat_map f (filter_map (member_by p) es)
   members_among [] = refl
-  members_among (e ∷ es) = ap (λ xs. of_node f p e ++ xs) (members_among es) ∙ by (text_at p.texts e.1.eds)
+  members_among (e ∷ es) = ap (λ xs. of_node f p e ++ xs) (members_among es) ∙ by (device_at p e.1.eds)
     where
       there : List (ℕ × Member)
       there = filter_map (member_by p) es
 
-      by : (o : Option (List ℕ)) → option_map_or (λ d. f (member_of e.0 e.1 d)) (option_map content_of o) []
-          ++ flat_map f there
+      by : (o : Option Sheet) → option_map_or (λ d. f (member_of e.0 e.1 d)) o [] ++ flat_map f there
           ≡ flat_map f (cons_option (option_map (λ m. (e.0, m))
-          (option_map (λ text. record { node = e.1; sections = (content_of text).sections }) o)) there)
+          (option_map (λ sheet. record { node = e.1; sheet = sheet }) o)) there)
       by None = refl
-      by (Some text) = refl
+      by (Some sheet) = refl
 
   -- what is found of all nodes is what is found of their members
   pub all_members : flat_map (of_node f p) (entries p.nodes) ≡ flat_map f (members p)
@@ -52,7 +50,7 @@ module _ {X : Type 0} (f : ℕ × Member → List X) (p : Content) where
   all_members = members_among (entries p.nodes)
 
 -- what is found of a member is that of its node, where the node has that device
-pub found_there : {X : Type 0} (f : ℕ × Member → List X) (p : Content) (e : ℕ × Node) (device : DataSheet)
+pub found_there : {X : Type 0} (f : ℕ × Member → List X) (p : Content) (e : ℕ × Node) (device : Sheet)
     (found : ℕ × Member) (old new : List X) → device_at p e.1.eds ≡ Some device → found ≡ member_of e.0 e.1 device
     → new ≡ old ++ f found → new ≡ old ++ of_node f p e
 found_there f p e device found old new there is now =

@@ -1,7 +1,7 @@
 -- Private: what is kept of a node by numbers of its entries, and what is kept of it by itself.
 use Rattle.std.specs.Prelude.{◌≡◌, ℕ, false, [], ◌++◌, refl}
 use Rattle.std.specs.Coded.{Coded, code_by, coded×, coded_ℕ}
-use Rattle.ini_text.specs.Content.{Content as DataSheet}
+use Rattle.eds_device.specs.Sheets.{Sheet}
 use Rattle.co_project.specs.declared.node.Node.{Node}
 use Rattle.project_plan.specs.Network.{Member}
 use Rattle.project_plan.specs.Values.{Numbers}
@@ -9,12 +9,11 @@ use Rattle.diag_nodes.specs.declared.kept.Kept.{Kept}
 use Rattle.diag_nodes.specs.Kept.{numbers_by}
 use Rattle.diag_nodes.specs.Rules.{consumers_in, counters_in, identifiers_in, times_in}
 
--- a number and its node with sections are stored as the number, the node and a data sheet with these sections
-abbrev pub member_code : Coded Node → Coded DataSheet → Coded (ℕ × Member)
-member_code node_code device_code =
-    code_by (ℕ × (Node × DataSheet)) (coded× coded_ℕ (coded× node_code device_code))
-    (λ e. (e.0, (e.1.node, record { sections = e.1.sections; warnings = [] })))
-    (λ t. (t.0, record { node = t.1.0; sections = t.1.1.sections })) (λ _. refl)
+-- a number and its node with a data sheet are stored as these three
+abbrev pub member_code : Coded Node → Coded Sheet → Coded (ℕ × Member)
+member_code node_code sheet_code =
+    code_by (ℕ × (Node × Sheet)) (coded× coded_ℕ (coded× node_code sheet_code)) (λ e. (e.0, (e.1.node, e.1.sheet)))
+    (λ t. (t.0, record { node = t.1.0; sheet = t.1.1 })) (λ _. refl)
 
 -- the numbers that are wanted of a node that sends no message
 abbrev pub alone : ℕ × Member → Numbers

@@ -6,7 +6,7 @@ use Rattle.co_project.specs.declared.node.Node.{Node}
 use Rattle.co_project.specs.Project.{Content}
 use Rattle.project_plan.specs.Library.{IsRead, Read}
 use Rattle.project_plan.specs.Network.{Member, device_at, member_of}
-use Rattle.ini_text.specs.Content.{Content as DataSheet}
+use Rattle.eds_device.specs.Sheets.{Sheet}
 use Rattle.co_project.specs.Tables.{node_at}
 
 -- the device of each node was read
@@ -18,5 +18,5 @@ abbrev pub of_node : {X : Type 0} → (ℕ × Member → List X) → Content →
 of_node f p e = option_map_or (λ d. f (member_of e.0 e.1 d)) (device_at p e.1.eds) []
 
 -- the data sheet of the node of a number
-abbrev pub device_for : Content → ℕ → Option DataSheet
+abbrev pub device_for : Content → ℕ → Option Sheet
 device_for p id = option_and_then (λ (node : Node). device_at p node.eds) (node_at p.nodes id)

@@ -27,18 +27,18 @@ diagnostic code subject = record { code = code; subject = subject }
 unfoldable pub parameter_diagnostic : ℕ × Member → ℕ × ℕ → Option Diag
 parameter_diagnostic e place =
     option_map (λ fault. diagnostic (parameter_code fault) (of.Param e.0 place.0 place.1))
-    (option_and_then (λ text. result_err (parameter_bytes (entry_at e.1.sections e.0 place.0 place.1) text e.0))
-    (parameter_text e.1.sections e.1.node.params place))
+    (option_and_then (λ text. result_err (parameter_bytes (entry_at e.1.sheet e.0 place.0 place.1) text e.0))
+    (parameter_text e.1.sheet.sections e.1.node.params place))
 
 -- the default of an entry of a modelled type that spells none of its values
 unfoldable pub unreadable_default : ℕ × Member → ℕ × ℕ → Option Diag
 unreadable_default e place =
-    option_and_then (λ text. if spells_none e.0 text (kind_at e.1.sections place)
+    option_and_then (λ text. if spells_none e.0 text (kind_at e.1.sheet place)
     then Some (diagnostic Unreadable (of.Default e.0 place.0 place.1)) else None)
-    (default_text e.1.sections place.0 place.1)
+    (default_text e.1.sheet place.0 place.1)
 
 unfoldable pub unreadable_defaults : ℕ × Member → List Diag
-unreadable_defaults e = filter_map (unreadable_default e) (pairs_of e.1.sections)
+unreadable_defaults e = filter_map (unreadable_default e) (pairs_of e.1.sheet.sections)
 
 -- the heartbeat consumers of all nodes
 unfoldable pub consumers : Content → List HeartbeatConsumer

@@ -10,7 +10,7 @@ use Rattle.diag_nodes.specs.Rules.{numbers_of, times_in}
 
 -- the numbers that are wanted of a node, by the rules of version 3 or not
 abbrev pub numbers_by : Bool → List PlannedMessage → ℕ × Member → Numbers
-numbers_by is_three plan e = number_among e.1.sections (wanted_by is_three plan e)
+numbers_by is_three plan e = number_among e.1.sheet (wanted_by is_three plan e)
 
 -- the times of all nodes
 abbrev pub times : Content → List (ℕ × ℕ)

@@ -39,7 +39,7 @@ counter_at numbers = numbers Bits8 (0x1019, 0)
 -- ---- what there is of each kind at a node, by the numbers of nodes
 
 abbrev pub identifiers_in : (ℕ × Member → Numbers) → ℕ × Member → List ℕ
-identifiers_in numbers e = filter_map (identifier_at (numbers e)) (pairs_of e.1.sections)
+identifiers_in numbers e = filter_map (identifier_at (numbers e)) (pairs_of e.1.sheet.sections)
 
 -- a heartbeat consumer of a node, with the value of its entry
 abbrev pub with_value : ℕ → ℕ → ℕ → HeartbeatConsumer
@@ -49,7 +49,7 @@ abbrev pub consumer_of : Numbers → ℕ → ℕ × ℕ → Option HeartbeatCons
 consumer_of numbers node place = option_map (with_value node place.1) (consumer_at numbers place)
 
 abbrev pub consumers_in : (ℕ × Member → Numbers) → ℕ × Member → List HeartbeatConsumer
-consumers_in numbers e = filter_map (consumer_of (numbers e) e.0) (pairs_of e.1.sections)
+consumers_in numbers e = filter_map (consumer_of (numbers e) e.0) (pairs_of e.1.sheet.sections)
 
 abbrev pub times_in : (ℕ × Member → Numbers) → ℕ × Member → List (ℕ × ℕ)
 times_in numbers e = (e.0, heartbeat_time (numbers e)) ∷ []

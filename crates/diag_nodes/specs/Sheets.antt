@@ -9,4 +9,4 @@ use Rattle.diag_nodes.specs.Found.{parameter_diagnostic}
 -- the faults of a node's own parameters, and of those that its data sheet gives
 unfoldable pub faults_of_node : ℕ × Member → List Diag
 faults_of_node e = filter_map (λ own. parameter_diagnostic e own.0) (entries e.1.node.params)
-    ++ filter_map (parameter_diagnostic e) (given_places e.1.sections)
+    ++ filter_map (parameter_diagnostic e) (given_places e.1.sheet.sections)

@@ -27,7 +27,7 @@ pub struct Kept {
 
 /// The identifier with which a TPDO is on.
 fn identifier_at(device: &DataSheet, values: &Dict, index: u16, sub: u8) -> Option<Identifier>
-    ensures { result ≡ identifier_at (number_among device.now.sections values.now) (index, sub) }
+    ensures { result ≡ identifier_at (number_among device.now values.now) (index, sub) }
 {
     if !is_tpdo_cob_id(index, sub) {
         return None;
@@ -47,7 +47,7 @@ fn keep_identifiers(
     values: &Dict,
 ) -> Result<(), AllocError>
     ensures { OnOk result (identifiers.new.items ≡ identifiers.old.items
-        ++ filter_map (identifier_at (number_among device.now.sections values.now)) (pairs_of device.now.sections)) }
+        ++ filter_map (identifier_at (number_among device.now values.now)) (pairs_of device.now.sections)) }
 {
     for (index, sub) in device.pairs() {
         if let Some(identifier) = identifier_at(device, values, *index, *sub) {
@@ -65,7 +65,7 @@ fn consumer_of(
     index: u16,
     sub: u8,
 ) -> Option<HeartbeatConsumer>
-    ensures { result ≡ consumer_of (number_among device.now.sections values.now) id (index, sub) }
+    ensures { result ≡ consumer_of (number_among device.now values.now) id (index, sub) }
 {
     if index != 0x1016 || sub == 0 {
         return None;
@@ -86,7 +86,7 @@ fn keep_consumers(
     values: &Dict,
 ) -> Result<(), AllocError>
     ensures { OnOk result (consumers.new.items ≡ consumers.old.items
-        ++ filter_map (consumer_of (number_among device.now.sections values.now) id) (pairs_of device.now.sections)) }
+        ++ filter_map (consumer_of (number_among device.now values.now) id) (pairs_of device.now.sections)) }
 {
     for (index, sub) in device.pairs() {
         if let Some(consumer) = consumer_of(id, device, values, *index, *sub) {
@@ -104,13 +104,13 @@ pub(crate) fn keep_values(
     values: &Dict,
 ) -> Result<(), AllocError>
     ensures identifiers { OnOk result (kept.new.identifiers.items ≡ kept.old.identifiers.items
-        ++ filter_map (identifier_at (number_among device.now.sections values.now)) (pairs_of device.now.sections)) }
+        ++ filter_map (identifier_at (number_among device.now values.now)) (pairs_of device.now.sections)) }
     ensures consumers { OnOk result (kept.new.consumers.items ≡ kept.old.consumers.items
-        ++ filter_map (consumer_of (number_among device.now.sections values.now) id) (pairs_of device.now.sections)) }
+        ++ filter_map (consumer_of (number_among device.now values.now) id) (pairs_of device.now.sections)) }
     ensures times { OnOk result (kept.new.times.items ≡ kept.old.times.items
-        ++ (id, heartbeat_time (number_among device.now.sections values.now)) ∷ []) }
+        ++ (id, heartbeat_time (number_among device.now values.now)) ∷ []) }
     ensures counters { OnOk result (kept.new.counters.items ≡ kept.old.counters.items
-        ++ cons_option (option_map (λ n. (id, n)) (counter_at (number_among device.now.sections values.now))) []) }
+        ++ cons_option (option_map (λ n. (id, n)) (counter_at (number_among device.now values.now))) []) }
 {
     keep_identifiers(&mut kept.identifiers, device, values)?;
     keep_consumers(&mut kept.consumers, id, device, values)?;

@@ -1,7 +1,7 @@
 //! What is found of a node by itself, kept with what it was found by.
 ghost use Rattle.std.specs.Prelude.{◌≡◌, IfOk, IfSome, IsTrue};
 ghost use Rattle.project_plan.specs.Network.{member_of};
-ghost use Rattle.project_plan.specs.Sheets.{IsSheetOf};
+ghost use Rattle.project_plan.specs.Sheets.{AreEntriesOf};
 ghost use Rattle.project_plan.specs.Wanted.{values_given};
 ghost use Rattle.diag_nodes.specs.Alone.{alone, IsKeptOf};
 ghost use Rattle.diag_nodes.specs.Found.{unreadable_defaults};
@@ -26,7 +26,7 @@ pub(crate) struct NodeFound {
     node: Node,
     device: Shared<DataSheet>,
     /// The entries of its data sheet that have to be looked at.
-    sheet: Shared<SheetEntries>,
+    entries: Shared<SheetEntries>,
     /// The faults of its parameters.
     faults: Vec<Diag>,
     /// Its unreadable defaults.
@@ -42,7 +42,7 @@ impl Model for NodeFound {
     ghost use Rattle.co_project.specs.contracts.node.Node as own_node;
     ghost use Rattle.eds_device.specs.contracts.data_sheet.DataSheet as own_device;
     ghost use Rattle.project_plan.specs.Network.{Member, member_of};
-    ghost use Rattle.project_plan.specs.Sheets.{IsSheetOf};
+    ghost use Rattle.project_plan.specs.Sheets.{AreEntriesOf};
     ghost use Rattle.project_plan.specs.Wanted.{values_given};
     ghost use Rattle.diag_nodes.specs.Alone.{alone, member_code, IsKeptOf};
     ghost use Rattle.diag_nodes.specs.Found.{unreadable_defaults};
@@ -54,10 +54,10 @@ impl Model for NodeFound {
 
     ghost view = { λ f. member_of f.id f.node f.device };
 
-    ghost invariant = { λ f. IsSheetOf f.device f.sheet
+    ghost invariant = { λ f. AreEntriesOf f.device f.entries
         × (f.faults.items ≡ faults_of_node (member_of f.id f.node f.device))
         × (f.defaults.items ≡ unreadable_defaults (member_of f.id f.node f.device))
-        × (f.given ≡ values_given f.device.sections f.node.params f.id)
+        × (f.given ≡ values_given f.device f.node.params f.id)
         × IsKeptOf alone (member_of f.id f.node f.device) f.kept };
 }
 
@@ -67,13 +67,13 @@ fn faults_of(
     id: u8,
     node: &Node,
     device: &DataSheet,
-    sheet: &SheetEntries,
+    entries: &SheetEntries,
 ) -> Result<Vec<Diag>, AllocError>
-    requires { IsSheetOf device.now sheet.now }
+    requires { AreEntriesOf device.now entries.now }
     ensures { IfOk result (λ found. found.items ≡ faults_of_node (member_of id node.now device.now)) }
 {
     let mut found = Vec::new(alloc);
-    find_faults(&mut found, alloc, id, node, device, sheet)?;
+    find_faults(&mut found, alloc, id, node, device, entries)?;
     Ok(found)
 }
 
@@ -83,13 +83,13 @@ fn defaults_of(
     id: u8,
     node: &Node,
     device: &DataSheet,
-    sheet: &SheetEntries,
+    entries: &SheetEntries,
 ) -> Result<Vec<Diag>, AllocError>
-    requires { IsSheetOf device.now sheet.now }
+    requires { AreEntriesOf device.now entries.now }
     ensures { IfOk result (λ found. found.items ≡ unreadable_defaults (member_of id node.now device.now)) }
 {
     let mut found = Vec::new(alloc);
-    find_defaults(&mut found, id, node, device, sheet)?;
+    find_defaults(&mut found, id, node, device, entries)?;
     Ok(found)
 }
 
@@ -101,7 +101,7 @@ fn kept_of(
     device: &DataSheet,
     given: &Dict,
 ) -> Result<Kept, AllocError>
-    requires { given.now ≡ values_given device.now.sections node.now.params id }
+    requires { given.now ≡ values_given device.now node.now.params id }
     ensures { IfOk result (IsKeptOf alone (member_of id node.now device.now)) }
 {
     let _ = node;
@@ -117,13 +117,13 @@ impl NodeFound {
         id: u8,
         node: &Node,
         device: Shared<DataSheet>,
-        sheet: Shared<SheetEntries>,
+        entries: Shared<SheetEntries>,
     ) -> Result<NodeFound, AllocError>
-        requires { IsSheetOf device sheet }
+        requires { AreEntriesOf device entries }
         ensures { IfOk result (λ found. found ≡ member_of id node.now device) }
     {
-        let faults = faults_of(alloc, id, node, device.get(), sheet.get())?;
-        let defaults = defaults_of(alloc, id, node, device.get(), sheet.get())?;
+        let faults = faults_of(alloc, id, node, device.get(), entries.get())?;
+        let defaults = defaults_of(alloc, id, node, device.get(), entries.get())?;
         let given = values_given(alloc, id, &node.params, device.get())?;
         let kept = kept_of(alloc, id, node, device.get(), &given)?;
         let node = node.clone()?;
@@ -131,7 +131,7 @@ impl NodeFound {
             id,
             node,
             device,
-            sheet,
+            entries,
             faults,
             defaults,
             given,
@@ -148,17 +148,17 @@ impl NodeFound {
     }
 
     /// The entries of a device that have to be looked at, if it is this node's.
-    pub(crate) fn sheet_of(
+    pub(crate) fn entries_of(
         &self,
         device: &DataSheet,
     ) -> Result<Option<Shared<SheetEntries>>, AllocError>
-        ensures { IfOk result (λ found. IfSome found (IsSheetOf device.now)) }
+        ensures { IfOk result (λ found. IfSome found (AreEntriesOf device.now)) }
     {
         if !self.device.get().same(device) {
             return Ok(None);
         }
-        let sheet = self.sheet.share()?;
-        Ok(Some(sheet))
+        let entries = self.entries.share()?;
+        Ok(Some(entries))
     }
 
     /// The number of the node.
@@ -170,7 +170,7 @@ impl NodeFound {
 
     /// Its device.
     pub(crate) fn device(&self) -> &DataSheet
-        ensures { result.now.sections ≡ self.now.1.sections }
+        ensures { result.now ≡ self.now.1.sheet }
     {
         self.device.get()
     }
@@ -191,7 +191,7 @@ impl NodeFound {
 
     /// The values that diagnostics want of it, where it sends no message.
     pub(crate) fn given(&self) -> &Dict
-        ensures { result.now ≡ values_given self.now.1.sections self.now.1.node.params self.now.0 }
+        ensures { result.now ≡ values_given self.now.1.sheet self.now.1.node.params self.now.0 }
     {
         &self.given
     }

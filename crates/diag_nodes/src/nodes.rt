@@ -3,7 +3,7 @@ ghost use Rattle.std.specs.Prelude.{◌≡◌, ◌++◌, OnOk};
 ghost use Rattle.diag_nodes.specs.Found.{unreadable_defaults};
 ghost use Rattle.diag_nodes.specs.Sheets.{faults_of_node};
 ghost use Rattle.project_plan.specs.Network.{member_of};
-ghost use Rattle.project_plan.specs.Sheets.{IsSheetOf};
+ghost use Rattle.project_plan.specs.Sheets.{AreEntriesOf};
 
 use crate::defaults::find_unreadable;
 use crate::parameters::{find_given, find_own};
@@ -20,14 +20,14 @@ pub(crate) fn find_faults(
     id: u8,
     node: &Node,
     device: &DataSheet,
-    sheet: &SheetEntries,
+    entries: &SheetEntries,
 ) -> Result<(), AllocError>
-    requires { IsSheetOf device.now sheet.now }
+    requires { AreEntriesOf device.now entries.now }
     ensures { OnOk result (found.new.items
         ≡ found.old.items ++ faults_of_node (member_of id node.now device.now)) }
 {
     find_own(found, alloc, id, node, device)?;
-    find_given(found, alloc, id, node, device, &sheet.given)?;
+    find_given(found, alloc, id, node, device, &entries.given)?;
     Ok(())
 }
 
@@ -37,12 +37,12 @@ pub(crate) fn find_defaults(
     id: u8,
     node: &Node,
     device: &DataSheet,
-    sheet: &SheetEntries,
+    entries: &SheetEntries,
 ) -> Result<(), AllocError>
-    requires { IsSheetOf device.now sheet.now }
+    requires { AreEntriesOf device.now entries.now }
     ensures { OnOk result (found.new.items
         ≡ found.old.items ++ unreadable_defaults (member_of id node.now device.now)) }
 {
-    find_unreadable(found, id, node, device, &sheet.doubtful)?;
+    find_unreadable(found, id, node, device, &entries.doubtful)?;
     Ok(())
 }

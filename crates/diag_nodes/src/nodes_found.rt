@@ -1,13 +1,13 @@
 //! What was found of nodes by themselves, from one finding to the next.
 ghost use Rattle.std.specs.Prelude.{◌≡◌, IfOk, IfSome};
 ghost use Rattle.project_plan.specs.Network.{member_of};
-ghost use Rattle.project_plan.specs.Sheets.{IsSheetOf};
+ghost use Rattle.project_plan.specs.Sheets.{AreEntriesOf};
 
 use crate::node_found::NodeFound;
 use base::Shared;
 use co_project::{Node, Project};
 use eds_device::DataSheet;
-use project_plan::{SheetEntries, sheet_of};
+use project_plan::{SheetEntries, entries_of_sheet};
 use std::alloc::{AllocError, Global};
 use std::collections::BTreeMap;
 use std::marker::Model;
@@ -39,16 +39,16 @@ impl NodesFound {
     }
 
     /// The entries of a device that have to be looked at: by a node that has the same device, if there is one.
-    fn sheet(&self, alloc: Global, device: &DataSheet) -> Result<Shared<SheetEntries>, AllocError>
-        ensures { IfOk result (IsSheetOf device.now) }
+    fn entries(&self, alloc: Global, device: &DataSheet) -> Result<Shared<SheetEntries>, AllocError>
+        ensures { IfOk result (AreEntriesOf device.now) }
     {
         for (_id, found) in self.found.iter() {
-            if let Some(sheet) = found.sheet_of(device)? {
-                return Ok(sheet);
+            if let Some(entries) = found.entries_of(device)? {
+                return Ok(entries);
             }
         }
-        let sheet = sheet_of(alloc, device)?;
-        Shared::new(alloc, sheet)
+        let entries = entries_of_sheet(alloc, device)?;
+        Shared::new(alloc, entries)
     }
 
     /// What was found of a node by itself, as long as that didn't change. Takes time by the length of the node's parameters
@@ -74,8 +74,8 @@ impl NodesFound {
     ) -> Result<NodeFound, AllocError>
         ensures { IfOk result (λ found. found ≡ member_of id node.now device) }
     {
-        let sheet = self.sheet(alloc, device.get())?;
-        NodeFound::find(alloc, id, node, device, sheet)
+        let entries = self.entries(alloc, device.get())?;
+        NodeFound::find(alloc, id, node, device, entries)
     }
 
     /// Keeps what was found of a node.

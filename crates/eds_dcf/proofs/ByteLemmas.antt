@@ -3,6 +3,7 @@ use Rattle.std.proofs.Common.{◌≡◌, ℕ, ◌/◌, ◌%◌, ◌≤◌, false
 use Rattle.std.proofs.Common.{arith, ℤ}
 use Rattle.std.proofs.lemmas.Bool.{or_from}
 use Rattle.std.proofs.lemmas.Bool.Decides.{nat_tests}
+use Rattle.std.specs.Float.{Format}
 use Rattle.std.specs.Fmt.{signed_decimal}
 use Rattle.std.specs.List.{AllByRecursion, flat_map}
 use Rattle.std.specs.Str.{byte}
@@ -12,16 +13,21 @@ use Rattle.ini_text.specs.Content.{Pair, Section}
 use Rattle.ini_text.specs.Text.{has_bad_byte, is_bad_byte}
 use Rattle.concise_dcf.specs.declared.write.Write.{Write}
 use Rattle.co_values.specs.declared.data_type.DataType.{DataType}
-use Rattle.co_values.specs.declared.data_type.DataType.TheVariants.{Boolean, Integer8, Integer16, Integer32, Integer64}
-use Rattle.co_values.specs.declared.data_type.DataType.TheVariants.{Unsigned8, Unsigned16, Unsigned32, Unsigned64}
-use Rattle.co_values.specs.declared.data_type.DataType.TheVariants.{VisibleString, OctetString, Domain, NotModelled}
-use Rattle.co_values.specs.Values.{pairs_of, text_of_value}
+use Rattle.co_values.specs.declared.data_type.DataType.TheVariants.{VisibleString}
+use Rattle.co_values.specs.declared.form.Form.{Form}
+use Rattle.co_values.specs.declared.form.Form.TheVariants.{Flag, Signed, Unsigned, Decimal, Characters, HexPairs}
+use Rattle.co_values.specs.declared.form.Form.TheVariants.{Unmodelled}
+use Rattle.co_values.specs.Types.{form}
+use Rattle.co_values.specs.Values.{pairs_of, text_of_value, text_of_value_in}
+use Rattle.real_texts.specs.Reals.{format_of}
+use Rattle.real_texts.specs.Texts.{exact_text}
 use Rattle.eds_device.specs.Described.{kind_at}
+use Rattle.eds_device.specs.Sheets.{Sheet}
 use Rattle.eds_dcf.specs.Compact.{values_name}
 use Rattle.eds_dcf.specs.Dcf.{dcf_sections}
 use Rattle.eds_dcf.proofs.EachLemmas.{AddsSuch, IsSuch, dcf_such}
 use Rattle.eds_dcf.proofs.LineLemmas.{IsPlain, decimal_plain, signed_plain}
-use Rattle.eds_dcf.proofs.PrintedLemmas.{glyph_plain, pairs_plain, unsigned_plain}
+use Rattle.eds_dcf.proofs.PrintedLemmas.{characters_alone, glyph_plain, pairs_plain, real_plain, unsigned_plain}
 
 abbrev pub IsGood : List ℕ → Type 0
 IsGood bs = has_bad_byte bs ≡ false
@@ -53,23 +59,23 @@ signed_good z = plain_good (signed_decimal z) (signed_plain z)
 unsigned_good : (bytes : List ℕ) → IsGood (codes "0x" ++ pairs_of (reverse bytes))
 unsigned_good bytes = plain_good (codes "0x" ++ pairs_of (reverse bytes)) (unsigned_plain bytes)
 
+real_good : (f : Format) (bytes : List ℕ) → IsGood (exact_text f bytes)
+real_good f bytes = plain_good (exact_text f bytes) (real_plain f bytes)
+
 -- numbers and pairs of digits always, and a text where it is such
+form_good : (f : Form) (bytes : List ℕ) → (f ≡ Characters → IsGood bytes) → IsGood (text_of_value_in f bytes)
+form_good Flag bytes h = decimal_good _
+form_good (Signed width) bytes h = signed_good _
+form_good (Unsigned width) bytes h = unsigned_good bytes
+form_good (Decimal real) bytes h = real_good (format_of real) bytes
+form_good Characters bytes h = h refl
+form_good HexPairs bytes h = plain_good (pairs_of bytes) (pairs_plain bytes)
+form_good Unmodelled bytes h = refl
+
 pub printed_good : (kind : DataType) (bytes : List ℕ) → (kind ≡ VisibleString → IsGood bytes)
     → IsGood (text_of_value kind bytes)
 unfolding text_of_value
-printed_good Boolean bytes h = decimal_good _
-printed_good Integer8 bytes h = signed_good _
-printed_good Integer16 bytes h = signed_good _
-printed_good Integer32 bytes h = signed_good _
-printed_good Integer64 bytes h = signed_good _
-printed_good Unsigned8 bytes h = unsigned_good bytes
-printed_good Unsigned16 bytes h = unsigned_good bytes
-printed_good Unsigned32 bytes h = unsigned_good bytes
-printed_good Unsigned64 bytes h = unsigned_good bytes
-printed_good VisibleString bytes h = h refl
-printed_good OctetString bytes h = plain_good (pairs_of bytes) (pairs_plain bytes)
-printed_good Domain bytes h = plain_good (pairs_of bytes) (pairs_plain bytes)
-printed_good NotModelled bytes h = refl
+printed_good kind bytes h = form_good (form kind) bytes (λ is. h (characters_alone kind is))
 
 values_name_good : (index : ℕ) → IsGood (values_name index)
 values_name_good index = or_from _ _ (plain_byte _ (glyph_plain (index / 4096)))
@@ -111,10 +117,10 @@ text_good [] h = refl
 text_good (s ∷ ss) h =
     none_append is_bad_byte (section_text s) (text_of ss) (section_text_good s h.0) (text_good ss h.1)
 
-pub dcf_good : (ss : List Section) (node : ℕ) (name : List ℕ) (bitrate : ℕ) (writes : List Write)
-    → AllByRecursion IsGoodSection ss → IsGood name
-    → All (λ (w : Write). IsGood (text_of_value (kind_at ss (w.index, w.sub)) w.bytes)) writes
-    → IsGood (text_of (dcf_sections ss node name bitrate writes))
-dcf_good ss node name bitrate writes all named given =
-    text_good (dcf_sections ss node name bitrate writes)
-    (dcf_such IsGood AreGood IsGood adds_good ss node name bitrate writes all (refl, named) given)
+pub dcf_good : (sheet : Sheet) (node : ℕ) (name : List ℕ) (bitrate : ℕ) (writes : List Write)
+    → AllByRecursion IsGoodSection sheet.sections → IsGood name
+    → All (λ (w : Write). IsGood (text_of_value (kind_at sheet (w.index, w.sub)) w.bytes)) writes
+    → IsGood (text_of (dcf_sections sheet node name bitrate writes))
+dcf_good sheet node name bitrate writes all named given =
+    text_good (dcf_sections sheet node name bitrate writes)
+    (dcf_such IsGood AreGood IsGood adds_good sheet node name bitrate writes all (refl, named) given)

@@ -10,6 +10,7 @@ use Rattle.eds_device.specs.Names.{index_named, place_named, values_named}
 use Rattle.eds_device.specs.Origins.{Origin, own, compact, is_index, is_place, object_section, origin_of, sub_section}
 use Rattle.eds_device.specs.Origins.{values_section}
 use Rattle.eds_device.specs.Sections.{compact_count, is_plain}
+use Rattle.eds_device.specs.Sheets.{Sheet}
 use Rattle.std.specs.FinMap.{get}
 use Rattle.node_parameters.specs.Params.{Texts}
 use Rattle.node_parameters.specs.Parameters.{given_text, parameter_text}
@@ -45,13 +46,14 @@ module _ (P : Section → Type 0) (index sub : ℕ) where
       by true = hb
       by false = counted_all s hb (compact_count s)
 
-  origin_all : (ss : List Section) → AllByRecursion P ss → IfSome (origin_of ss index sub) (λ o. P (section_in o))
+  origin_all : (sheet : Sheet) → AllByRecursion P sheet.sections
+      → IfSome (origin_of sheet.sections index sub) (λ o. P (section_in o))
   unfolding origin_of sub_section object_section
-  origin_all ss h =
-      origin_by (sub == 0) (find (λ s. is_place (index, sub) (place_named s.name)) ss)
-      (find (λ s. is_index index (index_named s.name)) ss)
-      (found_all P (λ s. is_place (index, sub) (place_named s.name)) ss h)
-      (found_all P (λ s. is_index index (index_named s.name)) ss h)
+  origin_all sheet h =
+      origin_by (sub == 0) (find (λ s. is_place (index, sub) (place_named s.name)) sheet.sections)
+      (find (λ s. is_index index (index_named s.name)) sheet.sections)
+      (found_all P (λ s. is_place (index, sub) (place_named s.name)) sheet.sections h)
+      (found_all P (λ s. is_index index (index_named s.name)) sheet.sections h)
 
 module _ (Good : List ℕ → Type 0) where
   -- each value of the section is good
@@ -70,11 +72,11 @@ module _ (Good : List ℕ → Type 0) where
   found_value None h = tt
   found_value (Some p) h = h
 
-  listed_all : (ss : List Section) (index sub : ℕ) → AllByRecursion HasGood ss
-      → IfSome (listed_value ss index sub) Good
+  listed_all : (sheet : Sheet) (index sub : ℕ) → AllByRecursion HasGood sheet.sections
+      → IfSome (listed_value sheet.sections index sub) Good
   unfolding listed_value values_section
-  listed_all ss index sub h = by (find (λ s. is_index index (values_named s.name)) ss)
-      (found_all HasGood (λ s. is_index index (values_named s.name)) ss h)
+  listed_all sheet index sub h = by (find (λ s. is_index index (values_named s.name)) sheet.sections)
+      (found_all HasGood (λ s. is_index index (values_named s.name)) sheet.sections h)
     where
       by : (o : Option Section) → IfSome o HasGood
           → IfSome (option_and_then (λ (s : Section). option_map (λ (p : Pair). p.value)
@@ -88,16 +90,18 @@ module _ (Good : List ℕ → Type 0) where
   left_some (Some []) h = tt
   left_some (Some (c ∷ cs)) h = h
 
-  given_all : (ss : List Section) (index sub : ℕ) → AllByRecursion HasGood ss → IfSome (value_text ss index sub) Good
+  given_all : (sheet : Sheet) (index sub : ℕ) → AllByRecursion HasGood sheet.sections
+      → IfSome (value_text sheet.sections index sub) Good
   unfolding value_text
-  given_all ss index sub h = left_some (option_and_then (value_by ss index sub) (origin_of ss index sub))
-      (by (origin_of ss index sub) (origin_all HasGood index sub ss h))
+  given_all sheet index sub h =
+      left_some (option_and_then (value_by sheet.sections index sub) (origin_of sheet.sections index sub))
+      (by (origin_of sheet.sections index sub) (origin_all HasGood index sub sheet h))
     where
       by : (o : Option Origin) → IfSome o (λ o. HasGood (section_in o))
-          → IfSome (option_and_then (value_by ss index sub) o) Good
+          → IfSome (option_and_then (value_by sheet.sections index sub) o) Good
       by None g = tt
       by (Some (own s)) g = value_all s.pairs (codes "ParameterValue") g
-      by (Some (compact s n)) g = listed_all ss index sub h
+      by (Some (compact s n)) g = listed_all sheet index sub h
 
   either_value : (a b : Option (List ℕ)) → IfSome a Good → IfSome b Good → IfSome (option_or a b) Good
   either_value None b h g = g
@@ -107,12 +111,12 @@ module _ (Good : List ℕ → Type 0) where
   unless_pdo true o h = tt
   unless_pdo false o h = h
 
-  pub text_all : (ss : List Section) (params : Texts) → AllByRecursion HasGood ss
+  pub text_all : (sheet : Sheet) (params : Texts) → AllByRecursion HasGood sheet.sections
       → ((place : ℕ × ℕ) → IfSome (get params place) Good)
-      → (place : ℕ × ℕ) → IfSome (parameter_text ss params place) Good
+      → (place : ℕ × ℕ) → IfSome (parameter_text sheet.sections params place) Good
   unfolding parameter_text
-  text_all ss params values lines place =
-      left_some (option_or (get params place) (given_text ss place))
-      (either_value (get params place) (given_text ss place) (lines place)
-      (unless_pdo (is_of_pdos place.0) (value_text ss place.0 place.1)
-      (given_all ss place.0 place.1 values)))
+  text_all sheet params values lines place =
+      left_some (option_or (get params place) (given_text sheet.sections place))
+      (either_value (get params place) (given_text sheet.sections place) (lines place)
+      (unless_pdo (is_of_pdos place.0) (value_text sheet.sections place.0 place.1)
+      (given_all sheet place.0 place.1 values)))

@@ -16,14 +16,15 @@ use Rattle.ini_text.proofs.NameLemmas.{same_as, same_folded, same_sym}
 use Rattle.ini_text.specs.Change.{put_value}
 use Rattle.ini_text.specs.Content.{Pair, Section, lower_case, same, value_at}
 use Rattle.co_values.specs.declared.data_type.DataType.{DataType}
-use Rattle.co_values.specs.Types.{is_modelled}
 use Rattle.co_values.specs.Values.{text_of_value}
 use Rattle.eds_device.specs.Described.{kind_at}
 use Rattle.eds_device.specs.Places.{first_subs}
-use Rattle.eds_device.specs.Sections.{compact_count, in_subs, is_compact_type, kind_of, number_at, object_type}
+use Rattle.eds_device.specs.Sections.{compact_count, in_subs, is_compact_type, number_at, object_type}
 use Rattle.eds_device.specs.Origins.{object_section, origin_of}
+use Rattle.eds_device.specs.Sheets.{Sheet}
 use Rattle.eds_dcf.specs.Compact.{compact_object, is_compact, is_decimal, value_pair, values_pairs, values_pairs_at}
 use Rattle.eds_dcf.specs.Compact.{values_set, with_count}
+use Rattle.eds_dcf.specs.Entries.{says_modelled}
 use Rattle.eds_dcf.proofs.LawLemmas.{or_none, value_append}
 use Rattle.eds_dcf.proofs.TextLemmas.{filter_map-push}
 
@@ -142,11 +143,12 @@ keyed_value (Some bytes) true key kind p e = let is : record { key = key; value 
     in ap (λ (q : Pair). q.key) (sym is)
 keyed_value values false key kind p e = absurd (cc)
 
-pub value_pair_keyed : (ss : List Section) (values : ℕ × ℕ → Option (List ℕ)) (place : ℕ × ℕ) (p : Pair)
-    → value_pair ss values place ≡ Some p → p.key ≡ decimal place.1
+pub value_pair_keyed : (sheet : Sheet) (values : ℕ × ℕ → Option (List ℕ)) (place : ℕ × ℕ) (p : Pair)
+    → value_pair sheet values place ≡ Some p → p.key ≡ decimal place.1
 unfolding value_pair
-value_pair_keyed ss values place p e = keyed_value (values place) (is_compact (origin_of ss place.0 place.1))
-    (decimal place.1) (kind_at ss place) p e
+value_pair_keyed sheet values place p e =
+    keyed_value (values place) (is_compact (origin_of sheet.sections place.0 place.1))
+    (decimal place.1) (kind_at sheet place) p e
 
 value_of_pair : (values : Option (List ℕ)) (key : List ℕ) (kind : DataType)
     → option_map (λ (p : Pair). p.value)
@@ -155,12 +157,13 @@ value_of_pair : (values : Option (List ℕ)) (key : List ℕ) (kind : DataType)
 value_of_pair None key kind = refl
 value_of_pair (Some bytes) key kind = refl
 
-pub value_pair_value : (ss : List Section) (values : ℕ × ℕ → Option (List ℕ)) (place : ℕ × ℕ)
-    → is_compact (origin_of ss place.0 place.1) ≡ true
-    → option_map (λ (p : Pair). p.value) (value_pair ss values place) ≡ option_map (text_of_value (kind_at ss place))
+pub value_pair_value : (sheet : Sheet) (values : ℕ × ℕ → Option (List ℕ)) (place : ℕ × ℕ)
+    → is_compact (origin_of sheet.sections place.0 place.1) ≡ true
+    → option_map (λ (p : Pair). p.value) (value_pair sheet values place)
+    ≡ option_map (text_of_value (kind_at sheet place))
     (values place)
 unfolding value_pair
-value_pair_value ss values place is = rw is (value_of_pair (values place) (decimal place.1) (kind_at ss place))
+value_pair_value sheet values place is = rw is (value_of_pair (values place) (decimal place.1) (kind_at sheet place))
 
 -- ---- the section
 
@@ -204,10 +207,10 @@ count_bound s n e = by (is_compact_type (object_type s)) (number_at s (codes "Co
     by true (Some z) e = highest_bound z n e
     by false o e = absurd (cc)
 
-pub object_bound : (ss : List Section) (index : ℕ) (object : Section) (highest : ℕ)
-    → compact_object ss index ≡ Some (object, highest) → highest ≤ 254
+pub object_bound : (sheet : Sheet) (index : ℕ) (object : Section) (highest : ℕ)
+    → compact_object sheet index ≡ Some (object, highest) → highest ≤ 254
 unfolding compact_object
-object_bound ss index object highest e = by (object_section ss index) e
+object_bound sheet index object highest e = by (object_section sheet.sections index) e
   where
     one : (s : Section) (o : Option ℕ) → compact_count s ≡ o
         → option_map {T = ℕ} {U = Section × ℕ} (λ n. (s, n)) o ≡ Some (object, highest) → highest ≤ 254
@@ -224,17 +227,19 @@ object_bound ss index object highest e = by (object_section ss index) e
     by (Some s) e = one s (compact_count s) refl e
 
 -- every key that is no number, but NrOfEntries, has what it had
-pub others_there : (ss : List Section) (values : ℕ × ℕ → Option (List ℕ)) (index : ℕ) (object : Section) (highest : ℕ)
-    (pairs : List Pair) (key : List ℕ) → compact_object ss index ≡ Some (object, highest)
-    → is_modelled (kind_of object) ≡ true → is_decimal key ≡ false → same (codes "NrOfEntries") key ≡ false
-    → value_at (values_pairs_at ss values index pairs) key ≡ value_at pairs key
+pub others_there : (sheet : Sheet) (values : ℕ × ℕ → Option (List ℕ)) (index : ℕ) (object : Section) (highest : ℕ)
+    (pairs : List Pair) (key : List ℕ) → compact_object sheet index ≡ Some (object, highest)
+    → says_modelled sheet object ≡ true → is_decimal key ≡ false → same (codes "NrOfEntries") key ≡ false
+    → value_at (values_pairs_at sheet values index pairs) key ≡ value_at pairs key
 unfolding values_pairs_at values_set
-others_there ss values index object highest pairs key is modelled plain other =
-    let bound : highest ≤ 254 = object_bound ss index object highest is in
+others_there sheet values index object highest pairs key is modelled plain other =
+    let bound : highest ≤ 254 = object_bound sheet index object highest is in
     ap (λ (o : Option (Section × ℕ)). value_at
-    (option_map_or (λ c. values_pairs (is_modelled (kind_of c.0)) pairs (filter_map (value_pair ss values)
+    (option_map_or (λ c. values_pairs (says_modelled sheet c.0) pairs (filter_map (value_pair sheet values)
     (first_subs index (c.1 + 1)))) o pairs) key) is
-    ∙ ap (λ t. value_at (values_pairs t pairs (filter_map (value_pair ss values) (first_subs index (highest + 1)))) key)
+    ∙ ap (λ t. value_at (values_pairs t pairs
+    (filter_map (value_pair sheet values) (first_subs index (highest + 1)))) key)
     modelled
-    ∙ other_value pairs (filter_map (value_pair ss values) (first_subs index (highest + 1))) key plain other
-    (none_elsewhere (value_pair ss values) (value_pair_keyed ss values) index (highest + 1) key plain (omega arith))
+    ∙ other_value pairs (filter_map (value_pair sheet values) (first_subs index (highest + 1))) key plain other
+    (none_elsewhere (value_pair sheet values) (value_pair_keyed sheet values) index (highest + 1) key plain
+    (omega arith))

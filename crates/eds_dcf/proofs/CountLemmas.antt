@@ -9,14 +9,14 @@ use Rattle.std.specs.Option.{option_map_or}
 use Rattle.ini_text.proofs.NameLemmas.{same_refl}
 use Rattle.ini_text.specs.Change.{put_value}
 use Rattle.ini_text.specs.Content.{Pair, Section, same, value_at}
-use Rattle.co_values.specs.Types.{is_modelled}
 use Rattle.eds_device.specs.Names.{values_named}
 use Rattle.eds_device.specs.Origins.{values_section}
-use Rattle.eds_device.specs.Sections.{kind_of}
+use Rattle.eds_device.specs.Sheets.{Sheet}
 use Rattle.eds_dcf.specs.Commissioning.{commissioning, first_spelling, is_commissioning}
 use Rattle.eds_dcf.specs.Compact.{compact_object, is_decimal, made_section, new_values, values_name, values_pairs}
 use Rattle.eds_dcf.specs.Compact.{values_pairs_at, values_set, with_count, with_set}
 use Rattle.eds_dcf.specs.Dcf.{indices, made_sections, pairs_with, sections_with, with_values}
+use Rattle.eds_dcf.specs.Entries.{says_modelled}
 use Rattle.eds_dcf.proofs.ApartLemmas.{all_append, all_filter}
 use Rattle.eds_dcf.proofs.EntryLemmas.{with_compact}
 use Rattle.eds_dcf.proofs.NamedLemmas.{node_no_values, values_is_other}
@@ -96,38 +96,38 @@ new_counted set h =
     let whole : List Pair = record { key = codes "NrOfEntries"; value = decimal (length set) } ∷ set in
     ap (λ n. Some (decimal n)) (sym (all_decimals set h) ∙ length-filter (λ p. is_decimal p.key) whole)
 
-module _ (ss : List Section) (values : ℕ × ℕ → Option (List ℕ)) where
-  at_counted : (index : ℕ) (ps : List Pair) → (values_pairs_at ss values index ps ≡ ps)
-      ⊎ IsCounted (values_pairs_at ss values index ps)
+module _ (sheet : Sheet) (values : ℕ × ℕ → Option (List ℕ)) where
+  at_counted : (index : ℕ) (ps : List Pair) → (values_pairs_at sheet values index ps ≡ ps)
+      ⊎ IsCounted (values_pairs_at sheet values index ps)
   unfolding values_pairs_at
-  at_counted index ps = by (compact_object ss index)
+  at_counted index ps = by (compact_object sheet index)
     where
       by : (o : Option (Section × ℕ))
-          → (option_map_or (λ c. values_pairs (is_modelled (kind_of c.0)) ps (values_set ss values index c.1)) o ps
+          → (option_map_or (λ c. values_pairs (says_modelled sheet c.0) ps (values_set sheet values index c.1)) o ps
           ≡ ps) ⊎ IsCounted
-          (option_map_or (λ c. values_pairs (is_modelled (kind_of c.0)) ps (values_set ss values index c.1)) o ps)
+          (option_map_or (λ c. values_pairs (says_modelled sheet c.0) ps (values_set sheet values index c.1)) o ps)
       by None = inl refl
-      by (Some c) = values_counted (is_modelled (kind_of c.0)) ps (values_set ss values index c.1)
+      by (Some c) = values_counted (says_modelled sheet c.0) ps (values_set sheet values index c.1)
 
   -- a section stays or is counted
   abbrev IsRight : Section → Type 0
-  IsRight t = (index : ℕ) → values_named t.name ≡ Some index → Contains ss t ⊎ IsCounted t.pairs
+  IsRight t = (index : ℕ) → values_named t.name ≡ Some index → Contains sheet.sections t ⊎ IsCounted t.pairs
 
-  with_right : (s : Section) → Contains ss s → IsRight (with_values ss values s)
+  with_right : (s : Section) → Contains sheet.sections s → IsRight (with_values sheet values s)
   with_right s there index named =
       let other = values_is_other s.name index named in
-      let is : values_pairs_at ss values index s.pairs
-      ≡ pairs_with ss values s =
-      with_compact ss values s index (no_parameter ss s.name other.no_place other.no_index) named in
+      let is : values_pairs_at sheet values index s.pairs
+      ≡ pairs_with sheet values s =
+      with_compact sheet values s index (no_parameter sheet s.name other.no_place other.no_index) named in
       elim (at_counted index s.pairs) [
-        | inl same_pairs ↦ inl (subst (Contains ss)
+        | inl same_pairs ↦ inl (subst (Contains sheet.sections)
             (λ i. record { name = s.name; pairs = (sym same_pairs ∙ is) i }) there)
         | inr right ↦ inr (subst IsCounted is right)
       ]
 
-  one_right : (index : ℕ) (t : Section) → made_section ss values index ≡ Some t → IsRight t
+  one_right : (index : ℕ) (t : Section) → made_section sheet values index ≡ Some t → IsRight t
   unfolding made_section
-  one_right index t e at named = inr (by (is_some (values_section ss index)) (compact_object ss index) e)
+  one_right index t e at named = inr (by (is_some (values_section sheet.sections index)) (compact_object sheet index) e)
     where
       fresh : (set : List Pair) → AllByRecursion (λ p. is_decimal p.key ≡ true) set → (u : Bool)
           → cond u None (Some (record {
@@ -145,46 +145,46 @@ module _ (ss : List Section) (values : ℕ × ℕ → Option (List ℕ)) where
           subst (λ (s : Section). IsCounted s.pairs) is (new_counted set h)
 
       by : (u : Bool) (o : Option (Section × ℕ))
-          → cond u None (option_and_then (λ c. new_values index (values_set ss values index c.1)) o) ≡ Some t
+          → cond u None (option_and_then (λ c. new_values index (values_set sheet values index c.1)) o) ≡ Some t
           → IsCounted t.pairs
       by true o e = absurd (cc)
       by false None e = absurd (cc)
-      by false (Some c) e = fresh (values_set ss values index c.1) (set_numbers ss values index c.1)
-          (length (values_set ss values index c.1) == 0) e
+      by false (Some c) e = fresh (values_set sheet values index c.1) (set_numbers sheet values index c.1)
+          (length (values_set sheet values index c.1) == 0) e
 
-  all_right : (xs : List Section) → AllByRecursion (Contains ss) xs
-      → AllByRecursion IsRight (map (with_values ss values) xs)
+  all_right : (xs : List Section) → AllByRecursion (Contains sheet.sections) xs
+      → AllByRecursion IsRight (map (with_values sheet values) xs)
   all_right [] h = tt
   all_right (x ∷ xs) h = (with_right x h.0, all_right xs h.1)
 
-  made_right : (xs : List ℕ) → AllByRecursion IsRight (filter_map (made_section ss values) xs)
+  made_right : (xs : List ℕ) → AllByRecursion IsRight (filter_map (made_section sheet values) xs)
   made_right [] = tt
-  made_right (x ∷ xs) = by (made_section ss values x) refl (made_right xs)
+  made_right (x ∷ xs) = by (made_section sheet values x) refl (made_right xs)
     where
-      by : (o : Option Section) → made_section ss values x ≡ o
-          → AllByRecursion IsRight (filter_map (made_section ss values) xs)
-          → AllByRecursion IsRight (cons_option o (filter_map (made_section ss values) xs))
+      by : (o : Option Section) → made_section sheet values x ≡ o
+          → AllByRecursion IsRight (filter_map (made_section sheet values) xs)
+          → AllByRecursion IsRight (cons_option o (filter_map (made_section sheet values) xs))
       by None e rest = rest
       by (Some s) e rest = (one_right x s e, rest)
 
-  last_right : (node : ℕ) (label : List ℕ) (bitrate : ℕ) → IsRight (commissioning ss node label bitrate)
+  last_right : (node : ℕ) (label : List ℕ) (bitrate : ℕ) → IsRight (commissioning sheet.sections node label bitrate)
   unfolding commissioning
   last_right node label bitrate index named = let none = node_no_values first_spelling refl in absurd (cc)
 
   -- in each section of values that doesn't stand as it was, NrOfEntries is right
   pub sections_right : (node : ℕ) (label : List ℕ) (bitrate : ℕ) (t : Section)
-      → Contains (sections_with ss node label bitrate values) t → (index : ℕ) → values_named t.name ≡ Some index
-      → Contains ss t ⊎ IsCounted t.pairs
+      → Contains (sections_with sheet node label bitrate values) t → (index : ℕ) → values_named t.name ≡ Some index
+      → Contains sheet.sections t ⊎ IsCounted t.pairs
   unfolding sections_with made_sections
   sections_right node label bitrate t there =
-      let kept : List Section = filter (λ s. not (is_commissioning s.name)) ss in
-      let new : List Section = filter_map (made_section ss values) indices in
-      let last : Section = commissioning ss node label bitrate in
-      let whole : AllByRecursion IsRight (map (with_values ss values) kept ++ (new ++ last ∷ [])) =
-      all_append IsRight (map (with_values ss values) kept) (new ++ last ∷ [])
-      (all_right kept (all_filter (Contains ss)
-      (λ s. not (is_commissioning s.name)) ss (recursion_from_All (Contains ss) ss (All-contains_itself ss))))
+      let kept : List Section = filter (λ s. not (is_commissioning s.name)) sheet.sections in
+      let new : List Section = filter_map (made_section sheet values) indices in
+      let last : Section = commissioning sheet.sections node label bitrate in
+      let whole : AllByRecursion IsRight (map (with_values sheet values) kept ++ (new ++ last ∷ [])) =
+      all_append IsRight (map (with_values sheet values) kept) (new ++ last ∷ [])
+      (all_right kept (all_filter (Contains sheet.sections) (λ s. not (is_commissioning s.name)) sheet.sections
+      (recursion_from_All (Contains sheet.sections) sheet.sections (All-contains_itself sheet.sections))))
       (all_append IsRight new (last ∷ []) (made_right indices) (last_right node label bitrate, tt)) in
-      All-contains IsRight (map (with_values ss values) kept
-      ++ (new ++ last ∷ [])) t (All-from_recursion IsRight (map (with_values ss values) kept
+      All-contains IsRight (map (with_values sheet values) kept
+      ++ (new ++ last ∷ [])) t (All-from_recursion IsRight (map (with_values sheet values) kept
       ++ (new ++ last ∷ [])) whole) there

@@ -7,20 +7,19 @@ use Rattle.std.specs.Option.{option_map_or}
 use Rattle.ini_text.specs.Change.{put_value}
 use Rattle.ini_text.specs.Content.{Pair, Section, same}
 use Rattle.concise_dcf.specs.declared.write.Write.{Write}
-use Rattle.co_values.specs.Types.{is_modelled}
 use Rattle.co_values.specs.Values.{text_of_value}
 use Rattle.eds_device.specs.Described.{kind_at}
 use Rattle.eds_device.specs.Names.{values_named}
 use Rattle.eds_device.specs.Origins.{origin_of, values_section}
 use Rattle.eds_device.specs.Places.{first_subs}
-use Rattle.eds_device.specs.Sections.{kind_of}
+use Rattle.eds_device.specs.Sheets.{Sheet}
 use Rattle.eds_dcf.specs.Commissioning.{commissioning, first_spelling, is_commissioning, is_set_anew, others}
 use Rattle.eds_dcf.specs.Commissioning.{pairs_named, second_spelling}
 use Rattle.eds_dcf.specs.Compact.{compact_object, is_compact, is_decimal, made_section, new_values, value_pair}
 use Rattle.eds_dcf.specs.Compact.{values_name, values_pairs, values_pairs_at, values_set, with_all, with_count}
 use Rattle.eds_dcf.specs.Compact.{with_set}
 use Rattle.eds_dcf.specs.Dcf.{dcf_sections, indices, made_sections, pairs_with, sections_with, with_values}
-use Rattle.eds_dcf.specs.Entries.{parameter_pairs, parameter_place}
+use Rattle.eds_dcf.specs.Entries.{parameter_pairs, parameter_place, says_modelled}
 use Rattle.eds_dcf.specs.Pairs.{without}
 use Rattle.eds_dcf.specs.Writes.{last_of}
 use Rattle.eds_dcf.proofs.ApartLemmas.{all_append, all_filter}
@@ -104,57 +103,57 @@ module _ (Named : List ℕ → Type 0) (Pairs : List ℕ → List ℕ → Type 0
 
   -- ---- sections
 
-  module _ (ss : List Section) (values : ℕ × ℕ → Option (List ℕ))
-      (good : (place : ℕ × ℕ) → IfSome (values place) (λ bytes. Good (text_of_value (kind_at ss place) bytes))) where
+  module _ (sheet : Sheet) (values : ℕ × ℕ → Option (List ℕ))
+      (good : (place : ℕ × ℕ) → IfSome (values place) (λ bytes. Good (text_of_value (kind_at sheet place) bytes))) where
     parameter_such : (ps : List Pair) (place : ℕ × ℕ) → AllByRecursion Such ps
-        → AllByRecursion Such (parameter_pairs ps (kind_at ss place) (values place))
+        → AllByRecursion Such (parameter_pairs ps (kind_at sheet place) (values place))
     parameter_such ps place h =
         all_append Such (without (codes "ParameterValue") ps) _
         (all_filter Such (λ p. not (same (codes "ParameterValue") p.key)) ps h) (by (values place) (good place))
       where
-        by : (o : Option (List ℕ)) → IfSome o (λ bytes. Good (text_of_value (kind_at ss place) bytes))
+        by : (o : Option (List ℕ)) → IfSome o (λ bytes. Good (text_of_value (kind_at sheet place) bytes))
             → AllByRecursion Such (option_to_list (option_map (λ bytes. record {
               key = codes "ParameterValue";
-              value = text_of_value (kind_at ss place) bytes;
+              value = text_of_value (kind_at sheet place) bytes;
             }) o))
         by None g = tt
-        by (Some bytes) g = (adds.parameter (text_of_value (kind_at ss place) bytes) g, tt)
+        by (Some bytes) g = (adds.parameter (text_of_value (kind_at sheet place) bytes) g, tt)
 
-    set_one : (place : ℕ × ℕ) → IfSome (value_pair ss values place) Such
+    set_one : (place : ℕ × ℕ) → IfSome (value_pair sheet values place) Such
     unfolding value_pair
-    set_one place = by (is_compact (origin_of ss place.0 place.1)) (values place) (good place)
+    set_one place = by (is_compact (origin_of sheet.sections place.0 place.1)) (values place) (good place)
       where
-        by : (t : Bool) (v : Option (List ℕ)) → IfSome v (λ bytes. Good (text_of_value (kind_at ss place) bytes))
+        by : (t : Bool) (v : Option (List ℕ)) → IfSome v (λ bytes. Good (text_of_value (kind_at sheet place) bytes))
             → IfSome (cond t (option_map (λ bytes. record {
               key = decimal place.1;
-              value = text_of_value (kind_at ss place) bytes;
+              value = text_of_value (kind_at sheet place) bytes;
             }) v) None) Such
         by true None g = tt
-        by true (Some bytes) g = adds.listed place.1 (text_of_value (kind_at ss place) bytes) g
+        by true (Some bytes) g = adds.listed place.1 (text_of_value (kind_at sheet place) bytes) g
         by false v g = tt
 
-    set_such : (index highest : ℕ) → AllByRecursion Such (values_set ss values index highest)
+    set_such : (index highest : ℕ) → AllByRecursion Such (values_set sheet values index highest)
     unfolding values_set
-    set_such index highest = given_all Such (value_pair ss values) set_one (first_subs index (highest + 1))
+    set_such index highest = given_all Such (value_pair sheet values) set_one (first_subs index (highest + 1))
 
     at_such : (index : ℕ) (ps : List Pair) → AllByRecursion Such ps
-        → AllByRecursion Such (values_pairs_at ss values index ps)
+        → AllByRecursion Such (values_pairs_at sheet values index ps)
     unfolding values_pairs_at
-    at_such index ps h = by (compact_object ss index)
+    at_such index ps h = by (compact_object sheet index)
       where
         by : (o : Option (Section × ℕ)) → AllByRecursion Such
-            (option_map_or (λ c. values_pairs (is_modelled (kind_of c.0)) ps (values_set ss values index c.1)) o ps)
+            (option_map_or (λ c. values_pairs (says_modelled sheet c.0) ps (values_set sheet values index c.1)) o ps)
         by None = h
         by (Some c) =
-            values_such (is_modelled (kind_of c.0)) ps (values_set ss values index c.1) h (set_such index c.1)
+            values_such (says_modelled sheet c.0) ps (values_set sheet values index c.1) h (set_such index c.1)
 
-    with_such : (s : Section) → IsSuch Named Pairs s → IsSuch Named Pairs (with_values ss values s)
+    with_such : (s : Section) → IsSuch Named Pairs s → IsSuch Named Pairs (with_values sheet values s)
     unfolding pairs_with
-    with_such s h = record { name = h.name; pairs = by (parameter_place ss s.name) (values_named s.name) }
+    with_such s h = record { name = h.name; pairs = by (parameter_place sheet s.name) (values_named s.name) }
       where
         by : (o : Option (ℕ × ℕ)) (n : Option ℕ) → AllByRecursion Such
-            (option_map_or (λ place. parameter_pairs s.pairs (kind_at ss place) (values place)) o
-            (option_map_or (λ index. values_pairs_at ss values index s.pairs) n s.pairs))
+            (option_map_or (λ place. parameter_pairs s.pairs (kind_at sheet place) (values place)) o
+            (option_map_or (λ index. values_pairs_at sheet values index s.pairs) n s.pairs))
         by (Some place) n = parameter_such s.pairs place h.pairs
         by None (Some index) = at_such index s.pairs h.pairs
         by None None = h.pairs
@@ -170,20 +169,20 @@ module _ (Named : List ℕ → Type 0) (Pairs : List ℕ → List ℕ → Type 0
         by true = tt
         by false = record { name = adds.values_named index; pairs = (adds.counted (length set), h) }
 
-    made_such : (index : ℕ) → IfSome (made_section ss values index) (IsSuch Named Pairs)
+    made_such : (index : ℕ) → IfSome (made_section sheet values index) (IsSuch Named Pairs)
     unfolding made_section
-    made_such index = by (is_some (values_section ss index)) (compact_object ss index)
+    made_such index = by (is_some (values_section sheet.sections index)) (compact_object sheet index)
       where
         by : (t : Bool) (o : Option (Section × ℕ)) → IfSome (cond t None
-            (option_and_then (λ c. new_values index (values_set ss values index c.1)) o)) (IsSuch Named Pairs)
+            (option_and_then (λ c. new_values index (values_set sheet values index c.1)) o)) (IsSuch Named Pairs)
         by true o = tt
         by false None = tt
-        by false (Some c) = new_such index (values_set ss values index c.1) (set_such index c.1)
+        by false (Some c) = new_such index (values_set sheet values index c.1) (set_such index c.1)
 
-    module _ (all : AllByRecursion (IsSuch Named Pairs) ss) where
-      named_such : (name : List ℕ) → AllByRecursion Such (pairs_named ss name)
-      named_such name = by (find (λ s. same name s.name) ss)
-          (found_all (IsSuch Named Pairs) (λ s. same name s.name) ss all)
+    module _ (all : AllByRecursion (IsSuch Named Pairs) sheet.sections) where
+      named_such : (name : List ℕ) → AllByRecursion Such (pairs_named sheet.sections name)
+      named_such name = by (find (λ s. same name s.name) sheet.sections)
+          (found_all (IsSuch Named Pairs) (λ s. same name s.name) sheet.sections all)
         where
           by : (o : Option Section) → IfSome o (IsSuch Named Pairs)
               → AllByRecursion Such (option_map_or (λ s. s.pairs) o [])
@@ -191,7 +190,7 @@ module _ (Named : List ℕ → Type 0) (Pairs : List ℕ → List ℕ → Type 0
           by (Some s) h = h.pairs
 
       module _ (node : ℕ) (label : List ℕ) (bitrate : ℕ) (l : Pairs (codes "NodeName") label) where
-        last_such : IsSuch Named Pairs (commissioning ss node label bitrate)
+        last_such : IsSuch Named Pairs (commissioning sheet.sections node label bitrate)
         unfolding commissioning
         last_such = record {
           name = adds.node_named;
@@ -201,32 +200,32 @@ module _ (Named : List ℕ → Type 0) (Pairs : List ℕ → List ℕ → Type 0
               l,
               (
                 adds.rate bitrate,
-                all_append Such (others (pairs_named ss first_spelling)) _
-                    (all_filter Such (λ p. not (is_set_anew p.key)) (pairs_named ss first_spelling)
+                all_append Such (others (pairs_named sheet.sections first_spelling)) _
+                    (all_filter Such (λ p. not (is_set_anew p.key)) (pairs_named sheet.sections first_spelling)
                     (named_such first_spelling))
-                    (all_filter Such _ (pairs_named ss second_spelling) (named_such second_spelling)),
+                    (all_filter Such _ (pairs_named sheet.sections second_spelling) (named_such second_spelling)),
               ),
             ),
           );
         }
 
-        sections_such : AllByRecursion (IsSuch Named Pairs) (sections_with ss node label bitrate values)
+        sections_such : AllByRecursion (IsSuch Named Pairs) (sections_with sheet node label bitrate values)
         unfolding sections_with made_sections
         sections_such =
             all_append (IsSuch Named Pairs)
-            (map (with_values ss values) (filter (λ s. not (is_commissioning s.name)) ss)) _
-            (mapped_all (IsSuch Named Pairs) (IsSuch Named Pairs) (with_values ss values) with_such
-            (filter (λ s. not (is_commissioning s.name)) ss)
-            (all_filter (IsSuch Named Pairs) (λ s. not (is_commissioning s.name)) ss all))
-            (all_append (IsSuch Named Pairs) (filter_map (made_section ss values) indices) _
-            (given_all (IsSuch Named Pairs) (made_section ss values) made_such indices) (last_such, tt))
+            (map (with_values sheet values) (filter (λ s. not (is_commissioning s.name)) sheet.sections)) _
+            (mapped_all (IsSuch Named Pairs) (IsSuch Named Pairs) (with_values sheet values) with_such
+            (filter (λ s. not (is_commissioning s.name)) sheet.sections)
+            (all_filter (IsSuch Named Pairs) (λ s. not (is_commissioning s.name)) sheet.sections all))
+            (all_append (IsSuch Named Pairs) (filter_map (made_section sheet values) indices) _
+            (given_all (IsSuch Named Pairs) (made_section sheet values) made_such indices) (last_such, tt))
 
-  pub dcf_such : (ss : List Section) (node : ℕ) (label : List ℕ) (bitrate : ℕ) (writes : List Write)
-      → AllByRecursion (IsSuch Named Pairs) ss → Pairs (codes "NodeName") label
-      → All (λ (w : Write). Good (text_of_value (kind_at ss (w.index, w.sub)) w.bytes)) writes
-      → AllByRecursion (IsSuch Named Pairs) (dcf_sections ss node label bitrate writes)
+  pub dcf_such : (sheet : Sheet) (node : ℕ) (label : List ℕ) (bitrate : ℕ) (writes : List Write)
+      → AllByRecursion (IsSuch Named Pairs) sheet.sections → Pairs (codes "NodeName") label
+      → All (λ (w : Write). Good (text_of_value (kind_at sheet (w.index, w.sub)) w.bytes)) writes
+      → AllByRecursion (IsSuch Named Pairs) (dcf_sections sheet node label bitrate writes)
   unfolding dcf_sections
-  dcf_such ss node label bitrate writes all l given =
-      sections_such ss (last_of writes)
-      (λ place. left_holds (λ place bytes. Good (text_of_value (kind_at ss place) bytes)) writes place given)
+  dcf_such sheet node label bitrate writes all l given =
+      sections_such sheet (last_of writes)
+      (λ place. left_holds (λ place bytes. Good (text_of_value (kind_at sheet place) bytes)) writes place given)
       all node label bitrate l

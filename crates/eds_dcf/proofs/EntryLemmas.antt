@@ -15,15 +15,20 @@ use Rattle.ini_text.specs.Change.{pair_text, section_text}
 use Rattle.concise_dcf.specs.declared.write.Write.{Write}
 use Rattle.co_values.specs.declared.data_type.DataType.{DataType}
 use Rattle.co_values.specs.declared.form.Form.{Form}
-use Rattle.co_values.specs.declared.form.Form.TheVariants.{Flag, Signed, Unsigned, Characters, HexPairs, Unmodelled}
+use Rattle.co_values.specs.declared.form.Form.TheVariants.{Flag, Signed, Unsigned, Decimal, Characters, HexPairs}
+use Rattle.co_values.specs.declared.form.Form.TheVariants.{Unmodelled}
 use Rattle.co_values.specs.declared.form.Width.{Width}
-use Rattle.co_values.specs.declared.form.Width.TheVariants.{Bits8, Bits16, Bits32, Bits64}
+use Rattle.co_values.specs.declared.form.Width.TheVariants.{Bits8, Bits16, Bits24, Bits32, Bits40, Bits48, Bits56, Bits64}
 use Rattle.co_values.specs.Types.{form, octets}
 use Rattle.co_values.specs.Values.{Fits, FitsForm, text_of_value}
 use Rattle.co_values.specs.Values.{longest_value}
+use Rattle.real_texts.specs.declared.real.Real.{Real}
+use Rattle.real_texts.specs.declared.real.Real.TheVariants.{Real32, Real64}
+use Rattle.real_texts.specs.Reals.{format_of, octets as octets_of_format}
 use Rattle.eds_device.specs.Described.{kind_at}
 use Rattle.eds_device.specs.Names.{values_named}
 use Rattle.eds_device.specs.Origins.{origin_of, values_section}
+use Rattle.eds_device.specs.Sheets.{Sheet}
 use Rattle.eds_dcf.specs.Compact.{compact_object, is_compact, made_section, new_values, value_pair, values_pairs_at}
 use Rattle.eds_dcf.specs.Compact.{values_set}
 use Rattle.eds_dcf.specs.Dcf.{pairs_with}
@@ -33,28 +38,37 @@ use Rattle.eds_dcf.specs.Writes.{is_to, last_of}
 use Rattle.eds_dcf.proofs.TextLemmas.{two_parts}
 
 -- a write of a value of its entry's type
-abbrev FitsEntry : List Section → Write → Type 0
-FitsEntry ss write = Fits (kind_at ss (write.index, write.sub)) write.bytes
+abbrev FitsEntry : Sheet → Write → Type 0
+FitsEntry sheet write = Fits (kind_at sheet (write.index, write.sub)) write.bytes
 
 few_octets : (width : Width) → octets width ≤ longest_value
 few_octets Bits8 = omega arith
 few_octets Bits16 = omega arith
+few_octets Bits24 = omega arith
 few_octets Bits32 = omega arith
+few_octets Bits40 = omega arith
+few_octets Bits48 = omega arith
+few_octets Bits56 = omega arith
 few_octets Bits64 = omega arith
+
+few_in_format : (real : Real) → octets_of_format (format_of real) ≤ longest_value
+few_in_format Real32 = omega arith
+few_in_format Real64 = omega arith
 
 short_form : (f : Form) (bytes : List ℕ) → FitsForm f bytes → length bytes ≤ longest_value
 short_form Flag bytes h = let one : length bytes ≡ 1 = h.0 in omega arith
 short_form (Signed width) bytes h = subst (λ (n : ℕ). n ≤ longest_value) (sym h) (few_octets width)
 short_form (Unsigned width) bytes h = subst (λ (n : ℕ). n ≤ longest_value) (sym h) (few_octets width)
+short_form (Decimal real) bytes h = subst (λ (n : ℕ). n ≤ longest_value) (sym h.0) (few_in_format real)
 short_form Characters bytes h = h
 short_form HexPairs bytes h = h
 short_form Unmodelled bytes h = absurd h
 
 -- values of a type are not too long
-pub all_short : (ss : List Section) (writes : List Write) → All (FitsEntry ss) writes
+pub all_short : (sheet : Sheet) (writes : List Write) → All (FitsEntry sheet) writes
     → All (λ w. length w.bytes ≤ longest_value) writes
-all_short ss writes all = All-weaker (FitsEntry ss) (λ w. length w.bytes ≤ longest_value)
-    (λ w h. short_form (form (kind_at ss (w.index, w.sub))) w.bytes h.1) writes all
+all_short sheet writes all = All-weaker (FitsEntry sheet) (λ w. length w.bytes ≤ longest_value)
+    (λ w h. short_form (form (kind_at sheet (w.index, w.sub))) w.bytes h.1) writes all
 
 equal_from_test : (a b : ℕ) → (a == b) ≡ true → a ≡ b
 equal_from_test a b h = grind (arith, nat_tests)
@@ -96,36 +110,38 @@ module _ (P : ℕ × ℕ → List ℕ → Type 0) where
   left_holds writes place all = found_holds writes place all
 
 -- what writes leave at an entry is a value of its type
-pub left_fits : (ss : List Section) (writes : List Write) (values : ℕ × ℕ → Option (List ℕ)) → All (FitsEntry ss) writes
+pub left_fits : (sheet : Sheet) (writes : List Write) (values : ℕ × ℕ → Option (List ℕ)) → All (FitsEntry sheet) writes
     → ((place : ℕ × ℕ) → values place ≡ last_of writes place)
-    → (place : ℕ × ℕ) → IfSome (values place) (Fits (kind_at ss place))
-left_fits ss writes values all is place = subst (λ (o : Option (List ℕ)). IfSome o (Fits (kind_at ss place)))
-    (sym (is place)) (left_holds (λ place. Fits (kind_at ss place)) writes place all)
+    → (place : ℕ × ℕ) → IfSome (values place) (Fits (kind_at sheet place))
+left_fits sheet writes values all is place = subst (λ (o : Option (List ℕ)). IfSome o (Fits (kind_at sheet place)))
+    (sym (is place)) (left_holds (λ place. Fits (kind_at sheet place)) writes place all)
 
 -- the bytes at an entry are a value of its type
-pub found_fits_at : (ss : List Section) (values : ℕ × ℕ → Option (List ℕ)) (place : ℕ × ℕ) (kind : DataType)
-    (bytes : List ℕ) → ((place : ℕ × ℕ) → IfSome (values place) (Fits (kind_at ss place)))
-    → kind ≡ kind_at ss place → values place ≡ Some bytes → Fits kind bytes
-found_fits_at ss values place kind bytes fits is found =
+pub found_fits_at : (sheet : Sheet) (values : ℕ × ℕ → Option (List ℕ)) (place : ℕ × ℕ) (kind : DataType)
+    (bytes : List ℕ) → ((place : ℕ × ℕ) → IfSome (values place) (Fits (kind_at sheet place)))
+    → kind ≡ kind_at sheet place → values place ≡ Some bytes → Fits kind bytes
+found_fits_at sheet values place kind bytes fits is found =
     subst (λ (k : DataType). Fits k bytes) (sym is)
-    (subst (λ (o : Option (List ℕ)). IfSome o (Fits (kind_at ss place))) found (fits place))
+    (subst (λ (o : Option (List ℕ)). IfSome o (Fits (kind_at sheet place))) found (fits place))
 
-module _ (ss : List Section) (values : ℕ × ℕ → Option (List ℕ)) (place : ℕ × ℕ) where
-  pub no_compact_sub : is_compact (origin_of ss place.0 place.1) ≡ false → None ≡ value_pair ss values place
+module _ (sheet : Sheet) (values : ℕ × ℕ → Option (List ℕ)) (place : ℕ × ℕ) where
+  pub no_compact_sub : is_compact (origin_of sheet.sections place.0 place.1) ≡ false
+      → None ≡ value_pair sheet values place
   unfolding value_pair
   no_compact_sub is = rw is refl
 
-  pub no_value : values place ≡ None → None ≡ value_pair ss values place
+  pub no_value : values place ≡ None → None ≡ value_pair sheet values place
   unfolding value_pair
-  no_value none = rw none (by (is_compact (origin_of ss place.0 place.1)))
+  no_value none = rw none (by (is_compact (origin_of sheet.sections place.0 place.1)))
     where
       by : (t : Bool) → let nothing : Option Pair = None in nothing ≡ (if t then nothing else nothing)
       by true = refl
       by false = refl
 
-  pub pair_of_value : (kind : DataType) (bytes key text : List ℕ) → is_compact (origin_of ss place.0 place.1) ≡ true
-      → values place ≡ Some bytes → kind ≡ kind_at ss place → key ≡ decimal place.1 → text ≡ text_of_value kind bytes
-      → Some (record { key = key; value = text }) ≡ value_pair ss values place
+  pub pair_of_value : (kind : DataType) (bytes key text : List ℕ)
+      → is_compact (origin_of sheet.sections place.0 place.1) ≡ true
+      → values place ≡ Some bytes → kind ≡ kind_at sheet place → key ≡ decimal place.1 → text ≡ text_of_value kind bytes
+      → Some (record { key = key; value = text }) ≡ value_pair sheet values place
   unfolding value_pair
   pair_of_value kind bytes key text is found is_kind is_key is_text = rw (is, found, is_key, is_text, is_kind) refl
 
@@ -171,35 +187,35 @@ entry_text name shown pairs seen kind bytes text given out a b c is_shown is_see
     })) is_seen
     ∙ ap (λ o. out ++ section_text (record { name = name; pairs = parameter_pairs pairs kind o })) (sym is_given)
 
-module _ (ss : List Section) (values : ℕ × ℕ → Option (List ℕ)) (s : Section) where
+module _ (sheet : Sheet) (values : ℕ × ℕ → Option (List ℕ)) (s : Section) where
   pub with_parameter : (place : ℕ × ℕ) (kind : DataType) (given : Option (List ℕ))
-      → parameter_place ss s.name ≡ Some place → kind ≡ kind_at ss place → given ≡ values place
-      → parameter_pairs s.pairs kind given ≡ pairs_with ss values s
+      → parameter_place sheet s.name ≡ Some place → kind ≡ kind_at sheet place → given ≡ values place
+      → parameter_pairs s.pairs kind given ≡ pairs_with sheet values s
   unfolding pairs_with
   with_parameter place kind given is is_kind found = rw (is, is_kind, found) refl
 
-  pub with_compact : (index : ℕ) → parameter_place ss s.name ≡ None → values_named s.name ≡ Some index
-      → values_pairs_at ss values index s.pairs ≡ pairs_with ss values s
+  pub with_compact : (index : ℕ) → parameter_place sheet s.name ≡ None → values_named s.name ≡ Some index
+      → values_pairs_at sheet values index s.pairs ≡ pairs_with sheet values s
   unfolding pairs_with
   with_compact index none named = rw (none, named) refl
 
-  pub with_none : parameter_place ss s.name ≡ None → values_named s.name ≡ None → s.pairs ≡ pairs_with ss values s
+  pub with_none : parameter_place sheet s.name ≡ None → values_named s.name ≡ None → s.pairs ≡ pairs_with sheet values s
   unfolding pairs_with
   with_none none unnamed = rw (none, unnamed) refl
 
-module _ (ss : List Section) (values : ℕ × ℕ → Option (List ℕ)) (index : ℕ) where
-  pub not_made_beside : is_some (values_section ss index) ≡ true → made_section ss values index ≡ None
+module _ (sheet : Sheet) (values : ℕ × ℕ → Option (List ℕ)) (index : ℕ) where
+  pub not_made_beside : is_some (values_section sheet.sections index) ≡ true → made_section sheet values index ≡ None
   unfolding made_section
   not_made_beside there = rw there refl
 
-  pub not_made_of_others : is_some (values_section ss index) ≡ false → compact_object ss index ≡ None
-      → made_section ss values index ≡ None
+  pub not_made_of_others : is_some (values_section sheet.sections index) ≡ false → compact_object sheet index ≡ None
+      → made_section sheet values index ≡ None
   unfolding made_section
   not_made_of_others there none = rw (there, none) refl
 
-  pub made_of_compact : (section : Section) (highest : ℕ) → is_some (values_section ss index) ≡ false
-      → compact_object ss index ≡ Some (section, highest)
-      → new_values index (values_set ss values index highest) ≡ made_section ss values index
+  pub made_of_compact : (section : Section) (highest : ℕ) → is_some (values_section sheet.sections index) ≡ false
+      → compact_object sheet index ≡ Some (section, highest)
+      → new_values index (values_set sheet values index highest) ≡ made_section sheet values index
   unfolding made_section
   made_of_compact section highest there is = rw (there, is) refl
 

@@ -19,6 +19,7 @@ use Rattle.eds_device.specs.Described.{kind_at}
 use Rattle.eds_device.specs.Names.{index_named, place_named, values_named}
 use Rattle.eds_device.specs.Sections.{compact_count, is_plain}
 use Rattle.eds_device.specs.Origins.{Origin, own, compact, is_index, is_place, object_section, origin_of, sub_section}
+use Rattle.eds_device.specs.Sheets.{Sheet}
 use Rattle.eds_dcf.specs.Dcf.{with_values}
 use Rattle.eds_dcf.specs.Entries.{own_place, parameter_place}
 use Rattle.eds_dcf.specs.Pairs.{without}
@@ -83,34 +84,35 @@ set_nowhere_else kind (Some bytes) key other = ap (λ t. cond t (Some (text_of_v
     (same_sym key (codes "ParameterValue") ∙ other)
 
 -- the section of an entry has its value as ParameterValue, and its other keys as they were
-module _ (ss : List Section) (values : ℕ × ℕ → Option (List ℕ)) (s : Section) (place : ℕ × ℕ)
-    (is : parameter_place ss s.name ≡ Some place) where
-  pub parameter_there : value_at (with_values ss values s).pairs (codes "ParameterValue")
-      ≡ option_map (text_of_value (kind_at ss place)) (values place)
+module _ (sheet : Sheet) (values : ℕ × ℕ → Option (List ℕ)) (s : Section) (place : ℕ × ℕ)
+    (is : parameter_place sheet s.name ≡ Some place) where
+  pub parameter_there : value_at (with_values sheet values s).pairs (codes "ParameterValue")
+      ≡ option_map (text_of_value (kind_at sheet place)) (values place)
   parameter_there =
       ap (λ ps. value_at ps (codes "ParameterValue"))
-      (sym (with_parameter ss values s place (kind_at ss place) (values place) is refl refl))
-      ∙ value_append (without (codes "ParameterValue") s.pairs) (set_pairs (kind_at ss place) (values place))
+      (sym (with_parameter sheet values s place (kind_at sheet place) (values place) is refl refl))
+      ∙ value_append (without (codes "ParameterValue") s.pairs) (set_pairs (kind_at sheet place) (values place))
       (codes "ParameterValue")
-      ∙ ap (λ o. option_or o (value_at (set_pairs (kind_at ss place) (values place)) (codes "ParameterValue")))
+      ∙ ap (λ o. option_or o (value_at (set_pairs (kind_at sheet place) (values place)) (codes "ParameterValue")))
       (gone (codes "ParameterValue") s.pairs)
-      ∙ set_there (kind_at ss place) (values place)
+      ∙ set_there (kind_at sheet place) (values place)
 
   pub parameter_others : (key : List ℕ) → same (codes "ParameterValue") key ≡ false
-      → value_at (with_values ss values s).pairs key ≡ value_at s.pairs key
+      → value_at (with_values sheet values s).pairs key ≡ value_at s.pairs key
   parameter_others key other =
-      ap (λ ps. value_at ps key) (sym (with_parameter ss values s place (kind_at ss place) (values place) is refl refl))
-      ∙ value_append (without (codes "ParameterValue") s.pairs) (set_pairs (kind_at ss place) (values place)) key
-      ∙ ap (λ o. option_or o (value_at (set_pairs (kind_at ss place) (values place)) key))
+      ap (λ ps. value_at ps key)
+      (sym (with_parameter sheet values s place (kind_at sheet place) (values place) is refl refl))
+      ∙ value_append (without (codes "ParameterValue") s.pairs) (set_pairs (kind_at sheet place) (values place)) key
+      ∙ ap (λ o. option_or o (value_at (set_pairs (kind_at sheet place) (values place)) key))
       (stays (codes "ParameterValue") key s.pairs other)
-      ∙ ap (option_or (value_at s.pairs key)) (set_nowhere_else (kind_at ss place) (values place) key other)
+      ∙ ap (option_or (value_at s.pairs key)) (set_nowhere_else (kind_at sheet place) (values place) key other)
       ∙ or_none (value_at s.pairs key)
 
 -- a section of neither an entry nor values stays
-pub section_stays : (ss : List Section) (values : ℕ × ℕ → Option (List ℕ)) (s : Section)
-    → parameter_place ss s.name ≡ None → values_named s.name ≡ None → with_values ss values s ≡ s
-section_stays ss values s none unnamed = ap (λ (ps : List Pair). record { name = s.name; pairs = ps })
-    (sym (with_none ss values s none unnamed))
+pub section_stays : (sheet : Sheet) (values : ℕ × ℕ → Option (List ℕ)) (s : Section)
+    → parameter_place sheet s.name ≡ None → values_named s.name ≡ None → with_values sheet values s ≡ s
+section_stays sheet values s none unnamed = ap (λ (ps : List Pair). record { name = s.name; pairs = ps })
+    (sym (with_none sheet values s none unnamed))
 
 -- ---- the section of an entry
 
@@ -155,19 +157,20 @@ no_sub : (name : List ℕ) → length name ≡ 4 → place_named name ≡ None
 unfolding place_named
 no_sub name four = let past : drop 4 name ≡ [] = drop_all 4 name (omega arith) in rw past refl
 
-module _ (ss : List Section) (index sub : ℕ) where
-  named_by_sub : (s : Section) → sub_section ss index sub ≡ Some s → own_place s.name ≡ Some (index, sub)
+module _ (sheet : Sheet) (index sub : ℕ) where
+  named_by_sub : (s : Section) → sub_section sheet.sections index sub ≡ Some s → own_place s.name ≡ Some (index, sub)
   unfolding own_place sub_section
   named_by_sub s e =
       let here : ℕ × ℕ = (index, sub) in
       rw (place_of_test here (place_named s.name)
-      (find_passes (λ t. is_place (index, sub) (place_named t.name)) ss s e)) refl
+      (find_passes (λ t. is_place (index, sub) (place_named t.name)) sheet.sections s e)) refl
 
-  named_by_index : (s : Section) → object_section ss index ≡ Some s → sub ≡ 0 → own_place s.name ≡ Some (index, sub)
+  named_by_index : (s : Section) → object_section sheet.sections index ≡ Some s → sub ≡ 0
+      → own_place s.name ≡ Some (index, sub)
   unfolding own_place object_section
   named_by_index s e zeroth =
       let named : index_named s.name ≡ Some index = index_of_test index (index_named s.name)
-      (find_passes (λ t. is_index index (index_named t.name)) ss s e) in
+      (find_passes (λ t. is_index index (index_named t.name)) sheet.sections s e) in
       rw (no_sub s.name (four_digits s.name index named), named, zeroth) refl
 
   from_compact_not_own : (s : Section) (o : Option Section)
@@ -184,24 +187,26 @@ module _ (ss : List Section) (index sub : ℕ) where
       by None e = cc
       by (Some n) e = bounded n (nat_le sub n) e
 
-  stands : (p : Section → Bool) (s : Section) → find p ss ≡ Some s → (i : ℕ) × (slice_get ss i ≡ Some s)
-  stands p s e = (position_or_len p ss, sym (find_at p ss) ∙ e)
+  stands : (p : Section → Bool) (s : Section) → find p sheet.sections ≡ Some s
+      → (i : ℕ) × (slice_get sheet.sections i ≡ Some s)
+  stands p s e = (position_or_len p sheet.sections, sym (find_at p sheet.sections) ∙ e)
 
-  named_so : (x s : Section) → x ≡ s → (own_place x.name ≡ Some (index, sub)) × ((i : ℕ) × (slice_get ss i ≡ Some x))
-      → (own_place s.name ≡ Some (index, sub)) × ((i : ℕ) × (slice_get ss i ≡ Some s))
+  named_so : (x s : Section) → x ≡ s
+      → (own_place x.name ≡ Some (index, sub)) × ((i : ℕ) × (slice_get sheet.sections i ≡ Some x))
+      → (own_place s.name ≡ Some (index, sub)) × ((i : ℕ) × (slice_get sheet.sections i ≡ Some s))
   named_so x s is h = subst (λ (t : Section). (own_place t.name ≡ Some (index, sub))
-      × ((i : ℕ) × (slice_get ss i ≡ Some t))) is h
+      × ((i : ℕ) × (slice_get sheet.sections i ≡ Some t))) is h
 
   by_object : (s : Section) (rest : Option Origin) → (rest ≡ Some (own s) → ⊥) → (t : Bool) → (sub == 0) ≡ t
-      → (o : Option Section) → object_section ss index ≡ o
+      → (o : Option Section) → object_section sheet.sections index ≡ o
       → option_or (cond t (option_and_then (λ x. cond (is_plain x) (Some (own x)) None) o) None) rest ≡ Some (own s)
-      → (own_place s.name ≡ Some (index, sub)) × ((i : ℕ) × (slice_get ss i ≡ Some s))
+      → (own_place s.name ≡ Some (index, sub)) × ((i : ℕ) × (slice_get sheet.sections i ≡ Some s))
   unfolding object_section
   by_object s rest none true zeroth None at e = absurd (none e)
   by_object s rest none true zeroth (Some x) at e = by (is_plain x) e
     where
       by : (u : Bool) → option_or (cond u (Some (own x)) None) rest ≡ Some (own s)
-          → (own_place s.name ≡ Some (index, sub)) × ((i : ℕ) × (slice_get ss i ≡ Some s))
+          → (own_place s.name ≡ Some (index, sub)) × ((i : ℕ) × (slice_get sheet.sections i ≡ Some s))
       by true e = let is : x ≡ s = cc in named_so x s is (
         named_by_index x at (number_of_test sub 0 zeroth),
         stands (λ t. is_index index (index_named t.name)) x at,
@@ -209,26 +214,26 @@ module _ (ss : List Section) (index sub : ℕ) where
       by false e = absurd (none e)
   by_object s rest none false zeroth o at e = absurd (none e)
 
-  by_sub : (s : Section) (a : Option Section) → sub_section ss index sub ≡ a
+  by_sub : (s : Section) (a : Option Section) → sub_section sheet.sections index sub ≡ a
       → option_or (option_map own a)
       (option_or (cond (sub == 0) (option_and_then (λ x. cond (is_plain x) (Some (own x)) None)
-      (object_section ss index)) None)
+      (object_section sheet.sections index)) None)
       (option_and_then (λ t. option_and_then (λ n. cond (nat_le sub n) (Some (compact t n)) None) (compact_count t))
-      (object_section ss index))) ≡ Some (own s)
-      → (own_place s.name ≡ Some (index, sub)) × ((i : ℕ) × (slice_get ss i ≡ Some s))
+      (object_section sheet.sections index))) ≡ Some (own s)
+      → (own_place s.name ≡ Some (index, sub)) × ((i : ℕ) × (slice_get sheet.sections i ≡ Some s))
   unfolding sub_section
-  by_sub s None at e = by_object s _ (from_compact_not_own s (object_section ss index))
-      (sub == 0) refl (object_section ss index) refl e
+  by_sub s None at e = by_object s _ (from_compact_not_own s (object_section sheet.sections index))
+      (sub == 0) refl (object_section sheet.sections index) refl e
   by_sub s (Some x) at e = let is : x ≡ s = cc
       in named_so x s is (named_by_sub x at, stands (λ t. is_place (index, sub) (place_named t.name)) x at)
 
   -- an entry with a section of its own is the one that the section is named for, and the section stands in the text
-  own_named : (s : Section) → origin_of ss index sub ≡ Some (own s) → (own_place s.name ≡ Some (index, sub))
-      × ((i : ℕ) × (slice_get ss i ≡ Some s))
+  own_named : (s : Section) → origin_of sheet.sections index sub ≡ Some (own s) → (own_place s.name ≡ Some (index, sub))
+      × ((i : ℕ) × (slice_get sheet.sections i ≡ Some s))
   unfolding origin_of
-  own_named s e = by_sub s (sub_section ss index sub) refl e
+  own_named s e = by_sub s (sub_section sheet.sections index sub) refl e
 
-  pub entry_placed : (s : Section) → origin_of ss index sub ≡ Some (own s)
-      → is_modelled (kind_at ss (index, sub)) ≡ true → parameter_place ss s.name ≡ Some (index, sub)
+  pub entry_placed : (s : Section) → origin_of sheet.sections index sub ≡ Some (own s)
+      → is_modelled (kind_at sheet (index, sub)) ≡ true → parameter_place sheet s.name ≡ Some (index, sub)
   unfolding parameter_place
   entry_placed s e modelled = rw ((own_named s e).0, e, (bytes_eq-Decides s.name s.name).1 refl, modelled) refl

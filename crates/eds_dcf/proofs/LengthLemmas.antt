@@ -10,11 +10,15 @@ use Rattle.ini_text.proofs.NameLemmas.{same_folded}
 use Rattle.ini_text.specs.Content.{Pair, Section, same}
 use Rattle.concise_dcf.specs.declared.write.Write.{Write}
 use Rattle.co_values.specs.declared.data_type.DataType.{DataType}
-use Rattle.co_values.specs.declared.data_type.DataType.TheVariants.{Boolean, Integer8, Integer16, Integer32, Integer64}
-use Rattle.co_values.specs.declared.data_type.DataType.TheVariants.{Unsigned8, Unsigned16, Unsigned32, Unsigned64}
-use Rattle.co_values.specs.declared.data_type.DataType.TheVariants.{VisibleString, OctetString, Domain, NotModelled}
-use Rattle.co_values.specs.Values.{longest_value, pairs_of, text_of_value}
+use Rattle.co_values.specs.declared.form.Form.{Form}
+use Rattle.co_values.specs.declared.form.Form.TheVariants.{Flag, Signed, Unsigned, Decimal, Characters, HexPairs}
+use Rattle.co_values.specs.declared.form.Form.TheVariants.{Unmodelled}
+use Rattle.co_values.specs.Types.{form}
+use Rattle.co_values.specs.Values.{longest_value, pairs_of, text_of_value, text_of_value_in}
+use Rattle.real_texts.proofs.Plain.{texts_are_short}
+use Rattle.real_texts.specs.Reals.{format_of}
 use Rattle.eds_device.specs.Described.{kind_at}
+use Rattle.eds_device.specs.Sheets.{Sheet}
 use Rattle.eds_dcf.specs.Commissioning.{first_spelling}
 use Rattle.eds_dcf.specs.Compact.{values_name}
 use Rattle.eds_dcf.specs.Dcf.{dcf_sections}
@@ -34,9 +38,9 @@ IsShortPair p = AreShort p.key p.value
 abbrev pub IsShortSection : Section → Type 0
 IsShortSection s = IsSuch IsShortName AreShort s
 
--- as the text of a value of at most 512 bytes is
-abbrev IsShortText : List ℕ → Type 0
-IsShortText text = length text ≤ 1026
+-- as the text of a value of at most 512 bytes is: that of a REAL64 is the longest
+abbrev pub IsShortText : List ℕ → Type 0
+IsShortText text = length text ≤ 1092
 
 -- ---- what is printed
 
@@ -77,22 +81,19 @@ unsigned_short bytes few =
 decimal_text : (n : ℕ) → IsShortText (decimal n)
 decimal_text n = let short = decimal_short n in omega (arith, short)
 
+form_short : (f : Form) (bytes : List ℕ) → length bytes ≤ longest_value → IsShortText (text_of_value_in f bytes)
+form_short Flag bytes few = decimal_text _
+form_short (Signed width) bytes few = signed_short _
+form_short (Unsigned width) bytes few = unsigned_short bytes few
+form_short (Decimal real) bytes few = texts_are_short (format_of real) bytes
+form_short Characters bytes few = omega (arith, few)
+form_short HexPairs bytes few = pairs_short bytes few
+form_short Unmodelled bytes few = omega arith
+
 pub printed_short : (kind : DataType) (bytes : List ℕ) → length bytes ≤ longest_value
-    → length (text_of_value kind bytes) ≤ 1026
+    → IsShortText (text_of_value kind bytes)
 unfolding text_of_value
-printed_short Boolean bytes few = decimal_text _
-printed_short Integer8 bytes few = signed_short _
-printed_short Integer16 bytes few = signed_short _
-printed_short Integer32 bytes few = signed_short _
-printed_short Integer64 bytes few = signed_short _
-printed_short Unsigned8 bytes few = unsigned_short bytes few
-printed_short Unsigned16 bytes few = unsigned_short bytes few
-printed_short Unsigned32 bytes few = unsigned_short bytes few
-printed_short Unsigned64 bytes few = unsigned_short bytes few
-printed_short VisibleString bytes few = omega (arith, few)
-printed_short OctetString bytes few = pairs_short bytes few
-printed_short Domain bytes few = pairs_short bytes few
-printed_short NotModelled bytes few = omega arith
+printed_short kind bytes few = form_short (form kind) bytes few
 
 -- ---- pairs and names
 
@@ -101,7 +102,7 @@ same_length : (key other : List ℕ) → same key other ≡ true → length key 
 same_length key other e =
     sym (length-map key to_ascii_lowercase) ∙ ap length (same_folded key other e) ∙ length-map other to_ascii_lowercase
 
-of_key : (key value : List ℕ) (n : ℕ) → length key ≡ n → n ≤ 64 → length value ≤ 1026 → AreShort key value
+of_key : (key value : List ℕ) (n : ℕ) → length key ≡ n → n ≤ 64 → IsShortText value → AreShort key value
 of_key key value n is few short = omega (arith, is, few, short)
 
 adds_short : AddsSuch IsShortName AreShort IsShortText
@@ -116,10 +117,10 @@ adds_short = record {
   node_named = let long : length first_spelling ≡ 18 = refl in omega (arith, long);
 }
 
-pub dcf_short : (ss : List Section) (node : ℕ) (name : List ℕ) (bitrate : ℕ) (writes : List Write)
-    → AllByRecursion IsShortSection ss → length name ≤ 32
-    → All (λ (w : Write). length (text_of_value (kind_at ss (w.index, w.sub)) w.bytes) ≤ 1026) writes
-    → AllByRecursion IsShortSection (dcf_sections ss node name bitrate writes)
-dcf_short ss node name bitrate writes all named given =
-    dcf_such IsShortName AreShort IsShortText adds_short ss node name bitrate writes all
+pub dcf_short : (sheet : Sheet) (node : ℕ) (name : List ℕ) (bitrate : ℕ) (writes : List Write)
+    → AllByRecursion IsShortSection sheet.sections → length name ≤ 32
+    → All (λ (w : Write). IsShortText (text_of_value (kind_at sheet (w.index, w.sub)) w.bytes)) writes
+    → AllByRecursion IsShortSection (dcf_sections sheet node name bitrate writes)
+dcf_short sheet node name bitrate writes all named given =
+    dcf_such IsShortName AreShort IsShortText adds_short sheet node name bitrate writes all
     (of_key (codes "NodeName") name 8 refl (omega arith) (omega (arith, named))) given

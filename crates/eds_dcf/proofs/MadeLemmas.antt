@@ -21,6 +21,7 @@ use Rattle.eds_device.specs.Origins.{Origin, own, compact, is_index, object_sect
 use Rattle.eds_device.specs.Origins.{values_section}
 use Rattle.eds_device.specs.Places.{pairs_of}
 use Rattle.eds_device.specs.Sections.{compact_count, is_plain}
+use Rattle.eds_device.specs.Sheets.{Sheet}
 use Rattle.eds_dcf.specs.Compact.{compact_object, made_section, new_values, values_set}
 use Rattle.eds_dcf.specs.Dcf.{indices, made_sections}
 
@@ -180,29 +181,30 @@ index_below name index e = by (length name == 4) refl e
     by true h e = digits_below name (eqb-true (length name) 4 h) index e
     by false h e = absurd (cc)
 
-module _ (ss : List Section) (values : ℕ × ℕ → Option (List ℕ)) where
+module _ (sheet : Sheet) (values : ℕ × ℕ → Option (List ℕ)) where
   -- what is made is made for a compact object
-  made_object : (index : ℕ) → is_some (made_section ss values index) ≡ true → is_some (compact_object ss index) ≡ true
+  made_object : (index : ℕ) → is_some (made_section sheet values index) ≡ true
+      → is_some (compact_object sheet index) ≡ true
   unfolding made_section
-  made_object index some = by (is_some (values_section ss index)) (compact_object ss index) some
+  made_object index some = by (is_some (values_section sheet.sections index)) (compact_object sheet index) some
     where
       by : (t : Bool) (o : Option (Section × ℕ))
-          → is_some (cond t None (option_and_then (λ c. new_values index (values_set ss values index c.1)) o)) ≡ true
+          → is_some (cond t None (option_and_then (λ c. new_values index (values_set sheet values index c.1)) o)) ≡ true
           → is_some o ≡ true
       by true o h = absurd (false≢true h)
       by false None h = h
       by false (Some c) h = refl
 
-  object_below : (index : ℕ) → is_some (compact_object ss index) ≡ true → index < 0x10000
+  object_below : (index : ℕ) → is_some (compact_object sheet index) ≡ true → index < 0x10000
   unfolding compact_object object_section
-  object_below index some = by (find (λ s. is_index index (index_named s.name)) ss) refl some
+  object_below index some = by (find (λ s. is_index index (index_named s.name)) sheet.sections) refl some
     where
-      by : (o : Option Section) → find (λ s. is_index index (index_named s.name)) ss ≡ o
+      by : (o : Option Section) → find (λ s. is_index index (index_named s.name)) sheet.sections ≡ o
           → is_some (option_and_then {T = Section} {U = Section × ℕ}
           (λ s. option_map {T = ℕ} {U = Section × ℕ} (λ n. (s, n)) (compact_count s)) o) ≡ true → index < 0x10000
       by None e h = absurd (false≢true h)
       by (Some s) e h = index_below s.name index (index_is index (index_named s.name)
-          (found_passes (λ t. is_index index (index_named t.name)) ss s e))
+          (found_passes (λ t. is_index index (index_named t.name)) sheet.sections s e))
 
   -- a compact object has an entry with sub 0
   first_origin : (a b : Option Origin) (c : Option ℕ) (s : Section) → is_some c ≡ true
@@ -213,9 +215,10 @@ module _ (ss : List Section) (values : ℕ × ℕ → Option (List ℕ)) where
   first_origin None None None s h = absurd (false≢true h)
   first_origin None None (Some n) s h = let low : nat_le 0 n ≡ true = grind (arith, nat_tests) in rw low refl
 
-  has_origin : (index : ℕ) → is_some (compact_object ss index) ≡ true → is_some (origin_of ss index 0) ≡ true
+  has_origin : (index : ℕ) → is_some (compact_object sheet index) ≡ true
+      → is_some (origin_of sheet.sections index 0) ≡ true
   unfolding compact_object origin_of
-  has_origin index some = by (object_section ss index) some
+  has_origin index some = by (object_section sheet.sections index) some
     where
       counted : (o : Option ℕ) (s : Section) → is_some (option_map {T = ℕ} {U = Section × ℕ} (λ n. (s, n)) o) ≡ true
           → is_some o ≡ true
@@ -225,27 +228,31 @@ module _ (ss : List Section) (values : ℕ × ℕ → Option (List ℕ)) where
       by : (o : Option Section)
           → is_some (option_and_then {T = Section} {U = Section × ℕ}
           (λ s. option_map {T = ℕ} {U = Section × ℕ} (λ n. (s, n)) (compact_count s)) o) ≡ true
-          → is_some (option_or (option_map own (sub_section ss index 0))
+          → is_some (option_or (option_map own (sub_section sheet.sections index 0))
           (option_or (option_and_then (λ s. cond (is_plain s) (Some (own s)) None) o)
           (option_and_then (λ s. option_and_then (λ n. cond (nat_le 0 n) (Some (compact s n)) None)
           (compact_count s)) o))) ≡ true
       by None h = absurd (false≢true h)
-      by (Some s) h = first_origin (option_map own (sub_section ss index 0)) (cond (is_plain s) (Some (own s)) None)
+      by (Some s) h = first_origin (option_map own (sub_section sheet.sections index 0))
+          (cond (is_plain s) (Some (own s)) None)
           (compact_count s) s (counted (compact_count s) s h)
 
-  object_has : (index : ℕ) → is_some (compact_object ss index) ≡ true → has_place (index, 0) (pairs_of ss) ≡ true
-  object_has index some = by (origin_of ss index 0) refl (has_origin index some)
+  object_has : (index : ℕ) → is_some (compact_object sheet index) ≡ true
+      → has_place (index, 0) (pairs_of sheet.sections) ≡ true
+  object_has index some = by (origin_of sheet.sections index 0) refl (has_origin index some)
     where
-      by : (o : Option Origin) → origin_of ss index 0 ≡ o → is_some o ≡ true → has_place (index, 0) (pairs_of ss) ≡ true
+      by : (o : Option Origin) → origin_of sheet.sections index 0 ≡ o → is_some o ≡ true
+          → has_place (index, 0) (pairs_of sheet.sections) ≡ true
       by None e h = absurd (false≢true h)
-      by (Some src) e h = origin_has ss index 0 src e
+      by (Some src) e h = origin_has sheet.sections index 0 src e
 
-  pub walk_makes : filter_map (at_first (made_section ss values)) (pairs_of ss) ≡ made_sections ss values
+  pub walk_makes : filter_map (at_first (made_section sheet values)) (pairs_of sheet.sections)
+      ≡ made_sections sheet values
   unfolding made_sections indices
-  walk_makes = walked (made_section ss values) 0x10000 0 (pairs_of ss) (record {
-    sorted = pairs_sorted ss;
-    from = all_from (pairs_of ss);
+  walk_makes = walked (made_section sheet values) 0x10000 0 (pairs_of sheet.sections) (record {
+    sorted = pairs_sorted sheet.sections;
+    from = all_from (pairs_of sheet.sections);
     has = λ k le some. object_has k (made_object k some);
-    beyond = λ k past. none_of (made_section ss values k)
+    beyond = λ k past. none_of (made_section sheet values k)
         (λ some. let below : k < 0x10000 = object_below k (made_object k some) in omega arith);
   })

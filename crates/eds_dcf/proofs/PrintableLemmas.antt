@@ -6,13 +6,14 @@ use Rattle.std.proofs.lemmas.Bool.{false≢true, not-true}
 use Rattle.std.specs.List.{AllByRecursion, list_any}
 use Rattle.ini_text.proofs.NameLemmas.{same_sym}
 use Rattle.ini_text.specs.Change.{put_value}
-use Rattle.ini_text.specs.Content.{Pair, Section, same, same_key}
+use Rattle.ini_text.specs.Content.{Pair, same, same_key}
 use Rattle.ini_text.specs.Printable.{AreApart, IsKey, IsPrintablePair, IsValue}
 use Rattle.co_values.specs.declared.data_type.DataType.{DataType}
 use Rattle.co_values.specs.Values.{text_of_value}
 use Rattle.eds_device.specs.Described.{kind_at}
 use Rattle.eds_device.specs.Origins.{origin_of}
 use Rattle.eds_device.specs.Places.{first_subs}
+use Rattle.eds_device.specs.Sheets.{Sheet}
 use Rattle.eds_dcf.specs.Compact.{is_compact, is_decimal, value_pair, values_pairs, values_set, with_all, with_count}
 use Rattle.eds_dcf.specs.Compact.{with_set}
 use Rattle.eds_dcf.specs.Entries.{parameter_pairs}
@@ -76,9 +77,9 @@ own_sound ps kind (Some bytes) h v =
 
 -- ---- the values of compact subs
 
-module _ (ss : List Section) (values : ℕ × ℕ → Option (List ℕ))
+module _ (sheet : Sheet) (values : ℕ × ℕ → Option (List ℕ))
     (spelled : (place : ℕ × ℕ) → IfSome (values place)
-    (λ bytes. IsValue (text_of_value (kind_at ss place) bytes))) where
+    (λ bytes. IsValue (text_of_value (kind_at sheet place) bytes))) where
   -- a pair whose key is a number of its own
   record IsSet (n : ℕ) (p : Pair) : Type 0 where
     pair : IsPrintablePair p
@@ -86,24 +87,26 @@ module _ (ss : List Section) (values : ℕ × ℕ → Option (List ℕ))
     below : sub < n
     keyed : p.key ≡ decimal sub
 
-  set_one : (place : ℕ × ℕ) (o : Option Pair) → value_pair ss values place ≡ o
+  set_one : (place : ℕ × ℕ) (o : Option Pair) → value_pair sheet values place ≡ o
       → AllByRecursion (IsSet (suc place.1)) (option_to_list o)
   unfolding value_pair
-  set_one place o e = by (is_compact (origin_of ss place.0 place.1)) (values place) (spelled place) o e
+  set_one place o e = by (is_compact (origin_of sheet.sections place.0 place.1)) (values place) (spelled place) o e
     where
-      by : (t : Bool) (v : Option (List ℕ)) → IfSome v (λ bytes. IsValue (text_of_value (kind_at ss place) bytes))
+      by : (t : Bool) (v : Option (List ℕ)) → IfSome v (λ bytes. IsValue (text_of_value (kind_at sheet place) bytes))
           → (o : Option Pair)
           → cond t (option_map (λ bytes. record {
             key = decimal place.1;
-            value = text_of_value (kind_at ss place) bytes;
+            value = text_of_value (kind_at sheet place) bytes;
           }) v) None ≡ o
           → AllByRecursion (IsSet (suc place.1)) (option_to_list o)
       by t v is None e = tt
       by true None is (Some p) e = absurd (cc)
       by true (Some bytes) is (Some p) e =
-          let pair_is : record { key = decimal place.1; value = text_of_value (kind_at ss place) bytes } ≡ p = cc in (
+          let pair_is : record { key = decimal place.1; value = text_of_value (kind_at sheet place) bytes } ≡ p =
+          cc in (
             record {
-              pair = subst IsPrintablePair pair_is (set_pair (decimal place.1) (text_of_value (kind_at ss place) bytes)
+              pair = subst IsPrintablePair pair_is
+                  (set_pair (decimal place.1) (text_of_value (kind_at sheet place) bytes)
                   (decimal_key place.1) (decimal_open place.1) is);
               sub = place.1;
               below = omega arith;
@@ -129,52 +132,53 @@ module _ (ss : List Section) (values : ℕ × ℕ → Option (List ℕ))
       by false e = refl
 
   -- of the last sub, at most one pair
-  keyed_last : (index n : ℕ) (o : Option Pair) → value_pair ss values (index, n) ≡ o
+  keyed_last : (index n : ℕ) (o : Option Pair) → value_pair sheet values (index, n) ≡ o
       → AllByRecursion (λ q. q.key ≡ decimal n) (option_to_list o)
   keyed_last index n None e = tt
-  keyed_last index n (Some p) e = (value_pair_keyed ss values (index, n) p e, tt)
+  keyed_last index n (Some p) e = (value_pair_keyed sheet values (index, n) p e, tt)
 
   one_apart : (o : Option Pair) → AreApart same_key (option_to_list o)
   one_apart None = tt
   one_apart (Some p) = (tt, tt)
 
-  set_all : (index n : ℕ) → AllByRecursion (IsSet n) (filter_map (value_pair ss values) (first_subs index n))
+  set_all : (index n : ℕ) → AllByRecursion (IsSet n) (filter_map (value_pair sheet values) (first_subs index n))
   set_all index zero = tt
   set_all index (suc n) =
       subst (AllByRecursion (IsSet (suc n)))
-      (sym (filter_map-push (value_pair ss values) (first_subs index n) (index, n)))
-      (all_append (IsSet (suc n)) (filter_map (value_pair ss values) (first_subs index n))
-      (option_to_list (value_pair ss values (index, n)))
-      (all_weaker (IsSet n) (IsSet (suc n)) (more_set n) (filter_map (value_pair ss values) (first_subs index n))
+      (sym (filter_map-push (value_pair sheet values) (first_subs index n) (index, n)))
+      (all_append (IsSet (suc n)) (filter_map (value_pair sheet values) (first_subs index n))
+      (option_to_list (value_pair sheet values (index, n)))
+      (all_weaker (IsSet n) (IsSet (suc n)) (more_set n) (filter_map (value_pair sheet values) (first_subs index n))
       (set_all index n))
-      (set_one (index, n) (value_pair ss values (index, n)) refl))
+      (set_one (index, n) (value_pair sheet values (index, n)) refl))
 
   all_set_apart : (index n : ℕ) → n ≤ 2 ^ 64
-      → AreApart same_key (filter_map (value_pair ss values) (first_subs index n))
+      → AreApart same_key (filter_map (value_pair sheet values) (first_subs index n))
   all_set_apart index zero few = tt
   all_set_apart index (suc n) few =
-      subst (AreApart same_key) (sym (filter_map-push (value_pair ss values) (first_subs index n) (index, n)))
-      (apart_append same_key (filter_map (value_pair ss values) (first_subs index n))
-      (option_to_list (value_pair ss values (index, n)))
-      (all_set_apart index n (omega arith)) (one_apart (value_pair ss values (index, n)))
+      subst (AreApart same_key) (sym (filter_map-push (value_pair sheet values) (first_subs index n) (index, n)))
+      (apart_append same_key (filter_map (value_pair sheet values) (first_subs index n))
+      (option_to_list (value_pair sheet values (index, n)))
+      (all_set_apart index n (omega arith)) (one_apart (value_pair sheet values (index, n)))
       (all_weaker (IsSet n) (λ p. AllByRecursion (λ q. same_key p q ≡ false)
-      (option_to_list (value_pair ss values (index, n))))
+      (option_to_list (value_pair sheet values (index, n))))
       (λ p h. all_weaker (λ q. q.key ≡ decimal n) (λ q. same_key p q ≡ false)
       (λ q is. set_apart n (omega arith) p q h is)
-      (option_to_list (value_pair ss values (index, n))) (keyed_last index n (value_pair ss values (index, n)) refl))
-      (filter_map (value_pair ss values) (first_subs index n)) (set_all index n)))
+      (option_to_list (value_pair sheet values (index, n)))
+      (keyed_last index n (value_pair sheet values (index, n)) refl))
+      (filter_map (value_pair sheet values) (first_subs index n)) (set_all index n)))
 
   -- values that are set: pairs with decimal keys
-  pub set_sound : (index highest : ℕ) → highest ≤ 254 → AreSound (values_set ss values index highest)
+  pub set_sound : (index highest : ℕ) → highest ≤ 254 → AreSound (values_set sheet values index highest)
   unfolding values_set
   set_sound index highest few = record {
     each = all_weaker (IsSet (highest + 1)) IsPrintablePair (λ p h. h.pair)
-        (filter_map (value_pair ss values) (first_subs index (highest + 1))) (set_all index (highest + 1));
+        (filter_map (value_pair sheet values) (first_subs index (highest + 1))) (set_all index (highest + 1));
     apart = all_set_apart index (highest + 1) (omega arith);
   }
 
   pub set_decimal : (index highest : ℕ) → AllByRecursion (λ p. (is_decimal p.key ≡ true) × IsKey p.key × IsOpen p.key)
-      (values_set ss values index highest)
+      (values_set sheet values index highest)
   unfolding values_set
   set_decimal index highest =
       all_weaker (IsSet (highest + 1)) (λ p. (is_decimal p.key ≡ true) × IsKey p.key × IsOpen p.key)
@@ -183,29 +187,30 @@ module _ (ss : List Section) (values : ℕ × ℕ → Option (List ℕ))
         subst IsKey (sym h.keyed) (decimal_key h.sub),
         subst IsOpen (sym h.keyed) (decimal_open h.sub),
       ))
-      (filter_map (value_pair ss values) (first_subs index (highest + 1))) (set_all index (highest + 1))
+      (filter_map (value_pair sheet values) (first_subs index (highest + 1))) (set_all index (highest + 1))
 
 -- their keys are numbers, whatever their values are
-keyed_decimal : (ss : List Section) (values : ℕ × ℕ → Option (List ℕ)) (place : ℕ × ℕ) (o : Option Pair)
-    → value_pair ss values place ≡ o → AllByRecursion (λ p. is_decimal p.key ≡ true) (option_to_list o)
-keyed_decimal ss values place None e = tt
-keyed_decimal ss values place (Some p) e =
-    (ap is_decimal (value_pair_keyed ss values place p e) ∙ decimal_is_decimal place.1, tt)
+keyed_decimal : (sheet : Sheet) (values : ℕ × ℕ → Option (List ℕ)) (place : ℕ × ℕ) (o : Option Pair)
+    → value_pair sheet values place ≡ o → AllByRecursion (λ p. is_decimal p.key ≡ true) (option_to_list o)
+keyed_decimal sheet values place None e = tt
+keyed_decimal sheet values place (Some p) e =
+    (ap is_decimal (value_pair_keyed sheet values place p e) ∙ decimal_is_decimal place.1, tt)
 
-some_decimal : (ss : List Section) (values : ℕ × ℕ → Option (List ℕ)) (index n : ℕ)
-    → AllByRecursion (λ p. is_decimal p.key ≡ true) (filter_map (value_pair ss values) (first_subs index n))
-some_decimal ss values index zero = tt
-some_decimal ss values index (suc n) =
+some_decimal : (sheet : Sheet) (values : ℕ × ℕ → Option (List ℕ)) (index n : ℕ)
+    → AllByRecursion (λ p. is_decimal p.key ≡ true) (filter_map (value_pair sheet values) (first_subs index n))
+some_decimal sheet values index zero = tt
+some_decimal sheet values index (suc n) =
     subst (AllByRecursion (λ p. is_decimal p.key ≡ true))
-    (sym (filter_map-push (value_pair ss values) (first_subs index n) (index, n)))
-    (all_append (λ p. is_decimal p.key ≡ true) (filter_map (value_pair ss values) (first_subs index n))
-    (option_to_list (value_pair ss values (index, n)))
-    (some_decimal ss values index n) (keyed_decimal ss values (index, n) (value_pair ss values (index, n)) refl))
+    (sym (filter_map-push (value_pair sheet values) (first_subs index n) (index, n)))
+    (all_append (λ p. is_decimal p.key ≡ true) (filter_map (value_pair sheet values) (first_subs index n))
+    (option_to_list (value_pair sheet values (index, n)))
+    (some_decimal sheet values index n)
+    (keyed_decimal sheet values (index, n) (value_pair sheet values (index, n)) refl))
 
-pub set_numbers : (ss : List Section) (values : ℕ × ℕ → Option (List ℕ)) (index highest : ℕ)
-    → AllByRecursion (λ p. is_decimal p.key ≡ true) (values_set ss values index highest)
+pub set_numbers : (sheet : Sheet) (values : ℕ × ℕ → Option (List ℕ)) (index highest : ℕ)
+    → AllByRecursion (λ p. is_decimal p.key ≡ true) (values_set sheet values index highest)
 unfolding values_set
-set_numbers ss values index highest = some_decimal ss values index (highest + 1)
+set_numbers sheet values index highest = some_decimal sheet values index (highest + 1)
 
 -- ---- a section of values
 

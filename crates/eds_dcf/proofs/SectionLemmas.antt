@@ -11,18 +11,17 @@ use Rattle.ini_text.proofs.NameLemmas.{same_sym}
 use Rattle.ini_text.specs.Content.{Pair, Section, same, same_key, value_at}
 use Rattle.ini_text.specs.Printable.{AreApart, IsKey, IsName, IsPrintable, IsPrintableSection, IsValue, same_name}
 use Rattle.ini_text.specs.Text.{trim_line}
-use Rattle.co_values.specs.Types.{is_modelled}
 use Rattle.co_values.specs.Values.{text_of_value}
 use Rattle.eds_device.specs.Described.{kind_at}
 use Rattle.eds_device.specs.Names.{values_named}
 use Rattle.eds_device.specs.Origins.{is_index, values_section}
-use Rattle.eds_device.specs.Sections.{kind_of}
+use Rattle.eds_device.specs.Sheets.{Sheet}
 use Rattle.eds_dcf.specs.Commissioning.{commissioning, first_spelling, is_commissioning, is_set_anew, node_pairs}
 use Rattle.eds_dcf.specs.Commissioning.{others, others_beside, pairs_named, second_spelling}
 use Rattle.eds_dcf.specs.Compact.{compact_object, is_decimal, made_section, new_values, values_name, values_pairs}
 use Rattle.eds_dcf.specs.Compact.{values_pairs_at, values_set}
 use Rattle.eds_dcf.specs.Dcf.{indices, made_sections, pairs_with, sections_with, with_values}
-use Rattle.eds_dcf.specs.Entries.{parameter_pairs, parameter_place}
+use Rattle.eds_dcf.specs.Entries.{parameter_pairs, parameter_place, says_modelled}
 use Rattle.eds_dcf.proofs.ApartLemmas.{all_append, all_filter, all_pass, all_weaker, apart_append, apart_filter}
 use Rattle.eds_dcf.proofs.ApartLemmas.{apart_map}
 use Rattle.eds_dcf.proofs.CompactLemmas.{count_is_no_number, object_bound, untrue}
@@ -31,32 +30,32 @@ use Rattle.eds_dcf.proofs.PrintableLemmas.{AreSound, own_sound, set_decimal, set
 use Rattle.eds_dcf.proofs.PrintableLemmas.{values_sound}
 use Rattle.eds_dcf.proofs.ValuesNameLemmas.{named_back, not_the_node, values_name_is_name, values_named_same}
 
-module _ (ss : List Section) (values : ℕ × ℕ → Option (List ℕ))
+module _ (sheet : Sheet) (values : ℕ × ℕ → Option (List ℕ))
     (spelled : (place : ℕ × ℕ) → IfSome (values place)
-    (λ bytes. IsValue (text_of_value (kind_at ss place) bytes))) where
+    (λ bytes. IsValue (text_of_value (kind_at sheet place) bytes))) where
   -- ---- sections that stand
 
-  at_sound : (index : ℕ) (ps : List Pair) → AreSound ps → AreSound (values_pairs_at ss values index ps)
+  at_sound : (index : ℕ) (ps : List Pair) → AreSound ps → AreSound (values_pairs_at sheet values index ps)
   unfolding values_pairs_at
-  at_sound index ps h = by (compact_object ss index) refl
+  at_sound index ps h = by (compact_object sheet index) refl
     where
-      by : (o : Option (Section × ℕ)) → compact_object ss index ≡ o
-          → AreSound (option_map_or (λ c. values_pairs (is_modelled (kind_of c.0)) ps (values_set ss values index c.1))
+      by : (o : Option (Section × ℕ)) → compact_object sheet index ≡ o
+          → AreSound (option_map_or (λ c. values_pairs (says_modelled sheet c.0) ps (values_set sheet values index c.1))
           o ps)
       by None e = h
       by (Some c) e =
-          let few : c.1 ≤ 254 = object_bound ss index c.0 c.1 e in
-          values_sound (is_modelled (kind_of c.0)) ps (values_set ss values index c.1) h
-          (set_sound ss values spelled index c.1 few) (set_decimal ss values spelled index c.1)
+          let few : c.1 ≤ 254 = object_bound sheet index c.0 c.1 e in
+          values_sound (says_modelled sheet c.0) ps (values_set sheet values index c.1) h
+          (set_sound sheet values spelled index c.1 few) (set_decimal sheet values spelled index c.1)
 
-  with_sound : (s : Section) → AreSound s.pairs → AreSound (pairs_with ss values s)
+  with_sound : (s : Section) → AreSound s.pairs → AreSound (pairs_with sheet values s)
   unfolding pairs_with
-  with_sound s h = by (parameter_place ss s.name) (values_named s.name)
+  with_sound s h = by (parameter_place sheet s.name) (values_named s.name)
     where
       by : (o : Option (ℕ × ℕ)) (n : Option ℕ)
-          → AreSound (option_map_or (λ place. parameter_pairs s.pairs (kind_at ss place)
-          (values place)) o (option_map_or (λ index. values_pairs_at ss values index s.pairs) n s.pairs))
-      by (Some place) n = own_sound s.pairs (kind_at ss place) (values place) h (spelled place)
+          → AreSound (option_map_or (λ place. parameter_pairs s.pairs (kind_at sheet place)
+          (values place)) o (option_map_or (λ index. values_pairs_at sheet values index s.pairs) n s.pairs))
+      by (Some place) n = own_sound s.pairs (kind_at sheet place) (values place) h (spelled place)
       by None (Some index) = at_sound index s.pairs h
       by None None = h
 
@@ -66,11 +65,11 @@ module _ (ss : List Section) (values : ℕ × ℕ → Option (List ℕ))
   section_of_sound : (s : Section) → IsName s.name → AreSound s.pairs → IsPrintableSection s
   section_of_sound s n h = record { name = n; pairs = h.each; apart = h.apart }
 
-  with_printable : (s : Section) → IsPrintableSection s → IsPrintableSection (with_values ss values s)
-  with_printable s h = section_of_sound (with_values ss values s) h.name (with_sound s (sound_of s h))
+  with_printable : (s : Section) → IsPrintableSection s → IsPrintableSection (with_values sheet values s)
+  with_printable s h = section_of_sound (with_values sheet values s) h.name (with_sound s (sound_of s h))
 
   all_with : (xs : List Section) → AllByRecursion IsPrintableSection xs
-      → AllByRecursion IsPrintableSection (map (with_values ss values) xs)
+      → AllByRecursion IsPrintableSection (map (with_values sheet values) xs)
   all_with [] h = tt
   all_with (x ∷ xs) h = (with_printable x h.0, all_with xs h.1)
 
@@ -82,7 +81,7 @@ module _ (ss : List Section) (values : ℕ × ℕ → Option (List ℕ))
     pub from : low ≤ index
     pub below : index < past
     pub named : s.name ≡ values_name index
-    pub new : values_section ss index ≡ None
+    pub new : values_section sheet.sections index ≡ None
 
   new_printable : (index : ℕ) (set : List Pair) (s : Section) → index < 0x10000 → AreSound set
       → AllByRecursion (λ p. same (codes "NrOfEntries") p.key ≡ false) set → new_values index set ≡ Some s
@@ -114,31 +113,34 @@ module _ (ss : List Section) (values : ℕ × ℕ → Option (List ℕ))
             }),
           )
 
-  nothing_at : (index : ℕ) (o : Option Section) → values_section ss index ≡ o → (t : Bool) → is_some o ≡ t → t ≡ false
-      → values_section ss index ≡ None
+  nothing_at : (index : ℕ) (o : Option Section) → values_section sheet.sections index ≡ o → (t : Bool) → is_some o ≡ t
+      → t ≡ false
+      → values_section sheet.sections index ≡ None
   nothing_at index None e t h f = e
   nothing_at index (Some s) e t h f = absurd (false≢true (sym f ∙ sym h))
 
-  made_one : (index : ℕ) (s : Section) → index < 0x10000 → made_section ss values index ≡ Some s
-      → (s.name ≡ values_name index) × IsPrintableSection s × (values_section ss index ≡ None)
+  made_one : (index : ℕ) (s : Section) → index < 0x10000 → made_section sheet values index ≡ Some s
+      → (s.name ≡ values_name index) × IsPrintableSection s × (values_section sheet.sections index ≡ None)
   unfolding made_section
-  made_one index s low e = by (values_section ss index) refl (compact_object ss index) refl e
+  made_one index s low e = by (values_section sheet.sections index) refl (compact_object sheet index) refl e
     where
-      by : (v : Option Section) → values_section ss index ≡ v → (o : Option (Section × ℕ)) → compact_object ss index ≡ o
-          → cond (is_some v) None (option_and_then (λ c. new_values index (values_set ss values index c.1)) o) ≡ Some s
-          → (s.name ≡ values_name index) × IsPrintableSection s × (values_section ss index ≡ None)
+      by : (v : Option Section) → values_section sheet.sections index ≡ v → (o : Option (Section × ℕ))
+          → compact_object sheet index ≡ o
+          → cond (is_some v) None (option_and_then (λ c. new_values index (values_set sheet values index c.1)) o)
+          ≡ Some s
+          → (s.name ≡ values_name index) × IsPrintableSection s × (values_section sheet.sections index ≡ None)
       by (Some t) at o is e = absurd (cc)
       by None at None is e = absurd (cc)
       by None at (Some c) is e =
-          let few : c.1 ≤ 254 = object_bound ss index c.0 c.1 is in
-          let ok = new_printable index (values_set ss values index c.1) s low
-          (set_sound ss values spelled index c.1 few)
+          let few : c.1 ≤ 254 = object_bound sheet index c.0 c.1 is in
+          let ok = new_printable index (values_set sheet values index c.1) s low
+          (set_sound sheet values spelled index c.1 few)
           (all_weaker (λ p. (is_decimal p.key ≡ true) × IsKey p.key × IsOpen p.key)
           (λ p. same (codes "NrOfEntries") p.key ≡ false) (λ p number. count_is_no_number p.key number.0)
-          (values_set ss values index c.1) (set_decimal ss values spelled index c.1)) e in
+          (values_set sheet values index c.1) (set_decimal sheet values spelled index c.1)) e in
           (ok.0, ok.1, at)
 
-  made_head : (a n : ℕ) → a < 0x10000 → (o : Option Section) → made_section ss values a ≡ o
+  made_head : (a n : ℕ) → a < 0x10000 → (o : Option Section) → made_section sheet values a ≡ o
       → AllByRecursion (IsMade a (a + 1 + n)) (option_to_list o)
   made_head a n low None e = tt
   made_head a n low (Some s) e =
@@ -161,16 +163,16 @@ module _ (ss : List Section) (values : ℕ × ℕ → Option (List ℕ))
   one_and P (Some x) xs h g = (h.0, g)
 
   made_all : (n a : ℕ) → a + n ≤ 0x10000 → AllByRecursion (IsMade a (a + n))
-      (filter_map (made_section ss values) (range_with_len a n))
+      (filter_map (made_section sheet values) (range_with_len a n))
   made_all zero a low = tt
   made_all (suc n) a low =
       let past : a + 1 + n ≡ a + suc n = omega arith in
-      subst (λ m. AllByRecursion (IsMade a m) (filter_map (made_section ss values) (range_with_len a (suc n)))) past
-      (one_and (IsMade a (a + 1 + n)) (made_section ss values a)
-      (filter_map (made_section ss values) (range_with_len (a + 1) n))
-      (made_head a n (omega arith) (made_section ss values a) refl)
+      subst (λ m. AllByRecursion (IsMade a m) (filter_map (made_section sheet values) (range_with_len a (suc n)))) past
+      (one_and (IsMade a (a + 1 + n)) (made_section sheet values a)
+      (filter_map (made_section sheet values) (range_with_len (a + 1) n))
+      (made_head a n (omega arith) (made_section sheet values a) refl)
       (all_weaker (IsMade (a + 1) (a + 1 + n)) (IsMade a (a + 1 + n)) (made_later a n)
-      (filter_map (made_section ss values) (range_with_len (a + 1) n)) (made_all n (a + 1) (omega arith))))
+      (filter_map (made_section sheet values) (range_with_len (a + 1) n)) (made_all n (a + 1) (omega arith))))
 
   -- names that are made of two indices
   names_apart : (i j : ℕ) → i < 0x10000 → j < 0x10000 → (i ≡ j → ⊥) → same (values_name i) (values_name j) ≡ false
@@ -184,7 +186,7 @@ module _ (ss : List Section) (values : ℕ × ℕ → Option (List ℕ))
       ap (λ k. same k t.name) is ∙ ap (λ k. same (values_name a) k) h.named
       ∙ names_apart a h.index (omega arith) (omega (arith, h.below)) (λ e. omega (arith, h.from))
 
-  cons_apart : (a n : ℕ) → a + 1 + n ≤ 0x10000 → (o : Option Section) → made_section ss values a ≡ o
+  cons_apart : (a n : ℕ) → a + 1 + n ≤ 0x10000 → (o : Option Section) → made_section sheet values a ≡ o
       → (xs : List Section) → AllByRecursion (IsMade (a + 1) (a + 1 + n)) xs → AreApart same_name xs
       → AreApart same_name (cons_option o xs)
   cons_apart a n low None e xs all h = h
@@ -195,10 +197,10 @@ module _ (ss : List Section) (values : ℕ × ℕ → Option (List ℕ))
   )
 
   made_apart : (n a : ℕ) → a + n ≤ 0x10000
-      → AreApart same_name (filter_map (made_section ss values) (range_with_len a n))
+      → AreApart same_name (filter_map (made_section sheet values) (range_with_len a n))
   made_apart zero a low = tt
   made_apart (suc n) a low =
-      cons_apart a n (omega arith) (made_section ss values a) refl (filter_map (made_section ss values)
+      cons_apart a n (omega arith) (made_section sheet values a) refl (filter_map (made_section sheet values)
       (range_with_len (a + 1) n)) (made_all n (a + 1) (omega arith)) (made_apart n (a + 1) (omega arith))
 
   -- a section that stands has no name that is made
@@ -222,12 +224,12 @@ module _ (ss : List Section) (values : ℕ × ℕ → Option (List ℕ))
       (λ h. false≢true (sym other ∙ ap (is_index index)
       (values_named_same s.name (values_name index) h ∙ named_back index low) ∙ eq-eqb index index refl))
 
-  from_made : (m : Section) → IsMade 0 0x10000 m → AllByRecursion (λ s. same_name s m ≡ false) ss
+  from_made : (m : Section) → IsMade 0 0x10000 m → AllByRecursion (λ s. same_name s m ≡ false) sheet.sections
   unfolding values_section
   from_made m h =
       all_weaker (λ s. is_index h.index (values_named s.name) ≡ false) (λ s. same_name s m ≡ false)
       (λ s other. ap (same s.name) h.named ∙ stands_apart h.index h.below s other)
-      ss (none_named h.index ss h.new)
+      sheet.sections (none_named h.index sheet.sections h.new)
 
 all_swap : {X Y : Type 0} (R : X → Y → Type 0) (xs : List X) (ys : List Y)
     → AllByRecursion (λ y. AllByRecursion (λ x. R x y) xs) ys → AllByRecursion (λ x. AllByRecursion (R x) ys) xs
@@ -363,46 +365,47 @@ both_apart (s ∷ ss) new last h g = (
   both_apart ss new last h.1 g.1,
 )
 
-pub sections_printable : (ss : List Section) (node : ℕ) (label : List ℕ) (bitrate : ℕ)
-    (values : ℕ × ℕ → Option (List ℕ)) → IsPrintable ss → IsValue label
-    → ((place : ℕ × ℕ) → IfSome (values place) (λ bytes. IsValue (text_of_value (kind_at ss place) bytes)))
-    → IsPrintable (sections_with ss node label bitrate values)
+pub sections_printable : (sheet : Sheet) (node : ℕ) (label : List ℕ) (bitrate : ℕ)
+    (values : ℕ × ℕ → Option (List ℕ)) → IsPrintable sheet.sections → IsValue label
+    → ((place : ℕ × ℕ) → IfSome (values place) (λ bytes. IsValue (text_of_value (kind_at sheet place) bytes)))
+    → IsPrintable (sections_with sheet node label bitrate values)
 unfolding sections_with made_sections indices
-sections_printable ss node label bitrate values h v spelled =
-    let kept : List Section = filter (λ s. not (is_commissioning s.name)) ss in
-    let new : List Section = filter_map (made_section ss values) (range_with_len 0 0x10000) in
-    let last : Section = commissioning ss node label bitrate in
-    let all_new : AllByRecursion (IsMade ss values spelled 0 0x10000) new =
-    made_all ss values spelled 0x10000 0 (omega arith) in
-    let named : last.name ≡ first_spelling = commissioning_name ss node label bitrate in
+sections_printable sheet node label bitrate values h v spelled =
+    let kept : List Section = filter (λ s. not (is_commissioning s.name)) sheet.sections in
+    let new : List Section = filter_map (made_section sheet values) (range_with_len 0 0x10000) in
+    let last : Section = commissioning sheet.sections node label bitrate in
+    let all_new : AllByRecursion (IsMade sheet values spelled 0 0x10000) new =
+    made_all sheet values spelled 0x10000 0 (omega arith) in
+    let named : last.name ≡ first_spelling = commissioning_name sheet.sections node label bitrate in
     let all_kept : AllByRecursion IsPrintableSection kept =
-    all_filter IsPrintableSection (λ s. not (is_commissioning s.name)) ss h.each in
+    all_filter IsPrintableSection (λ s. not (is_commissioning s.name)) sheet.sections h.each in
     let other_kept : AllByRecursion (λ s. same_name s last ≡ false) kept =
     all_weaker (λ s. not (is_commissioning s.name) ≡ true) (λ s. same_name s last ≡ false)
     (λ s is. ap (same s.name) named ∙ same_sym s.name first_spelling
     ∙ (or_parts (same first_spelling s.name) (same second_spelling s.name)
     (not-true (is_commissioning s.name) is)).0)
-    kept (all_pass (λ s. not (is_commissioning s.name)) ss) in
+    kept (all_pass (λ s. not (is_commissioning s.name)) sheet.sections) in
     let other_new : AllByRecursion (λ s. same_name s last ≡ false) new =
-    all_weaker (IsMade ss values spelled 0 0x10000) (λ s. same_name s last ≡ false)
+    all_weaker (IsMade sheet values spelled 0 0x10000) (λ s. same_name s last ≡ false)
     (λ s is. ap (same s.name) named ∙ same_sym s.name first_spelling ∙ ap (same first_spelling) is.named
     ∙ not_the_node is.index) new all_new in
     let kept_new : AllByRecursion (λ s. AllByRecursion (λ m. same_name s m ≡ false) new) kept =
-    all_filter (λ s. AllByRecursion (λ m. same_name s m ≡ false) new) (λ s. not (is_commissioning s.name)) ss
-    (all_swap (λ s m. same_name s m ≡ false) ss new (all_weaker (IsMade ss values spelled 0 0x10000)
-    (λ m. AllByRecursion (λ s. same_name s m ≡ false) ss) (from_made ss values spelled) new all_new)) in
+    all_filter (λ s. AllByRecursion (λ m. same_name s m ≡ false) new) (λ s. not (is_commissioning s.name))
+    sheet.sections
+    (all_swap (λ s m. same_name s m ≡ false) sheet.sections new (all_weaker (IsMade sheet values spelled 0 0x10000)
+    (λ m. AllByRecursion (λ s. same_name s m ≡ false) sheet.sections) (from_made sheet values spelled) new all_new)) in
     record {
-      each = all_append IsPrintableSection (map (with_values ss values) kept) (new ++ last ∷ [])
-          (all_with ss values spelled kept all_kept)
+      each = all_append IsPrintableSection (map (with_values sheet values) kept) (new ++ last ∷ [])
+          (all_with sheet values spelled kept all_kept)
           (all_append IsPrintableSection new (last ∷ [])
-          (all_weaker (IsMade ss values spelled 0 0x10000) IsPrintableSection (λ s is. is.printable) new all_new)
-          (commissioning_printable ss node label bitrate h.each v, tt));
-      apart = apart_append same_name (map (with_values ss values) kept) (new ++ last ∷ [])
-          (apart_map same_name (with_values ss values)
-          (λ s t. refl) kept (apart_filter same_name (λ s. not (is_commissioning s.name)) ss h.apart))
-          (apart_append same_name new (last ∷ []) (made_apart ss values spelled 0x10000 0 (omega arith)) (tt, tt)
+          (all_weaker (IsMade sheet values spelled 0 0x10000) IsPrintableSection (λ s is. is.printable) new all_new)
+          (commissioning_printable sheet.sections node label bitrate h.each v, tt));
+      apart = apart_append same_name (map (with_values sheet values) kept) (new ++ last ∷ [])
+          (apart_map same_name (with_values sheet values)
+          (λ s t. refl) kept (apart_filter same_name (λ s. not (is_commissioning s.name)) sheet.sections h.apart))
+          (apart_append same_name new (last ∷ []) (made_apart sheet values spelled 0x10000 0 (omega arith)) (tt, tt)
           (all_weaker (λ s. same_name s last ≡ false) (λ s. AllByRecursion (λ t. same_name s t ≡ false) (last ∷ []))
           (λ s is. (is, tt)) new other_new))
           (map_all (λ s. AllByRecursion (λ t. same_name s t ≡ false) (new ++ last ∷ []))
-          (with_values ss values) kept (both_apart kept new last kept_new other_kept));
+          (with_values sheet values) kept (both_apart kept new last kept_new other_kept));
     }

@@ -18,21 +18,22 @@ use Rattle.ini_text.specs.Change.{put_value}
 use Rattle.ini_text.specs.Content.{Pair, Section, same}
 use Rattle.co_values.specs.declared.data_type.DataType.TheVariants.{NotModelled}
 use Rattle.base.specs.Digits.{digits_number}
-use Rattle.co_values.specs.Types.{is_modelled}
+use Rattle.co_values.specs.Types.{is_modelled, type_in}
 use Rattle.co_values.specs.Values.{text_of_value}
 use Rattle.eds_places.proofs.PlaceLemmas.{found_passes, index_is}
-use Rattle.eds_device.specs.Described.{Described, description_of, description_by, kind_at, listed_value, sub_listed}
-use Rattle.eds_device.specs.Described.{value_by}
+use Rattle.eds_device.specs.Described.{Described, description_of, description_by, kind_at, known_as, listed_value}
+use Rattle.eds_device.specs.Described.{sub_listed, value_by}
 use Rattle.eds_device.specs.Names.{index_named, place_named, values_named}
 use Rattle.eds_device.specs.Origins.{Origin, own, compact, is_index, object_section, origin_of, sub_section}
 use Rattle.eds_device.specs.Origins.{values_section}
 use Rattle.eds_device.specs.Places.{first_subs}
 use Rattle.eds_device.specs.Sections.{compact_count, is_plain, kind_of}
+use Rattle.eds_device.specs.Sheets.{Sheet}
 use Rattle.eds_dcf.specs.Commissioning.{commissioning, first_spelling, is_commissioning}
 use Rattle.eds_dcf.specs.Compact.{compact_object, is_compact, is_decimal, made_section, new_values, value_pair}
 use Rattle.eds_dcf.specs.Compact.{values_name, values_pairs, values_pairs_at, values_set, with_count}
 use Rattle.eds_dcf.specs.Dcf.{indices, made_sections, sections_with, with_values}
-use Rattle.eds_dcf.specs.Entries.{own_place, parameter_place}
+use Rattle.eds_dcf.specs.Entries.{own_place, parameter_place, says_modelled}
 use Rattle.eds_dcf.specs.Standing.{is_typed, section_in, value_that_stands}
 use Rattle.eds_dcf.proofs.AlikeLemmas.{kept_found, made_name, map_origin, or_none, origin_same}
 use Rattle.eds_dcf.proofs.CompactLemmas.{decimal_same, object_bound, value_pair_keyed, value_pair_value}
@@ -189,23 +190,24 @@ module _ (h : ℕ × ℕ → Option Pair) (keyed : (place : ℕ × ℕ) (p : Pai
 
 -- ---- sections of values
 
-pub no_parameter : (ss : List Section) (name : List ℕ) → place_named name ≡ None → index_named name ≡ None
-    → parameter_place ss name ≡ None
+pub no_parameter : (sheet : Sheet) (name : List ℕ) → place_named name ≡ None → index_named name ≡ None
+    → parameter_place sheet name ≡ None
 unfolding parameter_place own_place
-no_parameter ss name no_place no_index = rw (no_place, no_index) refl
+no_parameter sheet name no_place no_index = rw (no_place, no_index) refl
 
-module _ (ss : List Section) (values : ℕ × ℕ → Option (List ℕ)) (index : ℕ) where
+module _ (sheet : Sheet) (values : ℕ × ℕ → Option (List ℕ)) (index : ℕ) where
   -- the name of a section that is made says its index
-  made_test : (a : ℕ) → a < 0x10000 → (s : Section) → made_section ss values a ≡ Some s
+  made_test : (a : ℕ) → a < 0x10000 → (s : Section) → made_section sheet values a ≡ Some s
       → is_index index (values_named s.name) ≡ (index == a)
-  made_test a low s e = ap (λ name. is_index index (values_named name)) (made_name ss values a s e)
+  made_test a low s e = ap (λ name. is_index index (values_named name)) (made_name sheet values a s e)
       ∙ ap (is_index index) (named_back a low)
 
   made_aside : (n a : ℕ) → a + n ≤ 0x10000 → (index < a) ⊎ (a + n ≤ index)
-      → find (λ s. is_index index (values_named s.name)) (filter_map (made_section ss values) (range_with_len a n))
+      → find (λ s. is_index index (values_named s.name)) (filter_map (made_section sheet values) (range_with_len a n))
       ≡ None
   made_aside zero a low out = refl
-  made_aside (suc n) a low out = by (made_section ss values a) refl (made_aside n (a + 1) (omega arith) (further out))
+  made_aside (suc n) a low out =
+      by (made_section sheet values a) refl (made_aside n (a + 1) (omega arith) (further out))
     where
       further : (index < a) ⊎ (a + suc n ≤ index) → (index < a + 1) ⊎ (a + 1 + n ≤ index)
       further (inl below) = inl (omega arith)
@@ -215,33 +217,33 @@ module _ (ss : List Section) (values : ℕ × ℕ → Option (List ℕ)) (index 
       apart (inl below) e = omega arith
       apart (inr above) e = omega arith
 
-      by : (o : Option Section) → made_section ss values a ≡ o
+      by : (o : Option Section) → made_section sheet values a ≡ o
           → find (λ s. is_index index (values_named s.name))
-          (filter_map (made_section ss values) (range_with_len (a + 1) n)) ≡ None
+          (filter_map (made_section sheet values) (range_with_len (a + 1) n)) ≡ None
           → find (λ s. is_index index (values_named s.name))
-          (cons_option o (filter_map (made_section ss values) (range_with_len (a + 1) n))) ≡ None
+          (cons_option o (filter_map (made_section sheet values) (range_with_len (a + 1) n))) ≡ None
       by None e rest = rest
       by (Some s) e rest = let fails = made_test a (omega arith) s e ∙ ne_eqb index a (apart out) in rw fails rest
 
   made_there : (n a : ℕ) → a + n ≤ 0x10000 → a ≤ index → index < a + n
-      → find (λ s. is_index index (values_named s.name)) (filter_map (made_section ss values) (range_with_len a n))
-      ≡ made_section ss values index
+      → find (λ s. is_index index (values_named s.name)) (filter_map (made_section sheet values) (range_with_len a n))
+      ≡ made_section sheet values index
   made_there zero a low from below = absurd (omega arith)
   made_there (suc n) a low from below =
-      by (index == a) refl (made_section ss values a) refl (λ apart. made_there n (a + 1) (omega arith) (omega arith)
+      by (index == a) refl (made_section sheet values a) refl (λ apart. made_there n (a + 1) (omega arith) (omega arith)
       (omega arith))
     where
-      by : (t : Bool) → (index == a) ≡ t → (o : Option Section) → made_section ss values a ≡ o
+      by : (t : Bool) → (index == a) ≡ t → (o : Option Section) → made_section sheet values a ≡ o
           → ((index ≡ a → ⊥) → find (λ s. is_index index (values_named s.name))
-          (filter_map (made_section ss values) (range_with_len (a + 1) n)) ≡ made_section ss values index)
+          (filter_map (made_section sheet values) (range_with_len (a + 1) n)) ≡ made_section sheet values index)
           → find (λ s. is_index index (values_named s.name))
-          (cons_option o (filter_map (made_section ss values) (range_with_len (a + 1) n)))
-          ≡ made_section ss values index
+          (cons_option o (filter_map (made_section sheet values) (range_with_len (a + 1) n)))
+          ≡ made_section sheet values index
       by true e None is rest = made_aside n (a + 1) (omega arith)
           (inl (let here : index ≡ a = eqb-true index a e in omega arith)) ∙ sym is
-          ∙ ap (made_section ss values) (sym (eqb-true index a e))
+          ∙ ap (made_section sheet values) (sym (eqb-true index a e))
       by true e (Some s) is rest = let passes = made_test a (omega arith) s is ∙ e
-          in rw passes (sym is ∙ ap (made_section ss values) (sym (eqb-true index a e)))
+          in rw passes (sym is ∙ ap (made_section sheet values) (sym (eqb-true index a e)))
       by false e None is rest = rest (eqb-false index a e)
       by false e (Some s) is rest = let fails = made_test a (omega arith) s is ∙ e
           in rw fails (rest (eqb-false index a e))
@@ -250,52 +252,57 @@ module _ (ss : List Section) (values : ℕ × ℕ → Option (List ℕ)) (index 
   aside name h = ap (is_index index) (node_no_values name h)
 
   module _ (node : ℕ) (label : List ℕ) (bitrate : ℕ) where
-    last_aside : find (λ s. is_index index (values_named s.name)) (commissioning ss node label bitrate ∷ []) ≡ None
+    last_aside : find (λ s. is_index index (values_named s.name)) (commissioning sheet.sections node label bitrate ∷ [])
+        ≡ None
     unfolding commissioning
     last_aside = let fails = aside first_spelling refl in rw fails refl
 
     -- the section of an object's values: the one that stands, or the one that is made
-    pub values_found : index < 0x10000 → values_section (sections_with ss node label bitrate values) index
-        ≡ option_or (option_map (with_values ss values) (values_section ss index)) (made_section ss values index)
+    pub values_found : index < 0x10000 → values_section (sections_with sheet node label bitrate values) index
+        ≡ option_or (option_map (with_values sheet values) (values_section sheet.sections index))
+        (made_section sheet values index)
     unfolding values_section sections_with made_sections indices
     values_found low =
-        let kept : List Section = map (with_values ss values) (filter (λ s. not (is_commissioning s.name)) ss) in
-        let new : List Section = filter_map (made_section ss values) (range_with_len 0 0x10000) in
-        let last : List Section = commissioning ss node label bitrate ∷ [] in
+        let kept : List Section =
+        map (with_values sheet values) (filter (λ s. not (is_commissioning s.name)) sheet.sections) in
+        let new : List Section = filter_map (made_section sheet values) (range_with_len 0 0x10000) in
+        let last : List Section = commissioning sheet.sections node label bitrate ∷ [] in
         find-append (λ s. is_index index (values_named s.name)) kept (new ++ last)
         ∙ ap (λ o. option_or o (find (λ s. is_index index (values_named s.name)) (new ++ last)))
-        (kept_found ss values (λ name. is_index index (values_named name)) aside ss)
-        ∙ ap (option_or (option_map (with_values ss values) (find (λ s. is_index index (values_named s.name)) ss)))
+        (kept_found sheet values (λ name. is_index index (values_named name)) aside sheet.sections)
+        ∙ ap (option_or (option_map (with_values sheet values)
+        (find (λ s. is_index index (values_named s.name)) sheet.sections)))
         (find-append (λ s. is_index index (values_named s.name)) new last
         ∙ ap (λ o. option_or o (find (λ s. is_index index (values_named s.name)) last))
         (made_there 0x10000 0 (omega arith) (omega arith) low)
-        ∙ ap (option_or (made_section ss values index)) last_aside ∙ or_none (made_section ss values index))
+        ∙ ap (option_or (made_section sheet values index)) last_aside ∙ or_none (made_section sheet values index))
 
   -- ---- a compact sub
 
-  module _ (sub : ℕ) (object : Section) (highest : ℕ) (is : compact_object ss index ≡ Some (object, highest))
-      (modelled : is_modelled (kind_of object) ≡ true) where
-    set_here : sub ≤ highest → listed_in (values_set ss values index highest) sub ≡ value_pair ss values (index, sub)
+  module _ (sub : ℕ) (object : Section) (highest : ℕ) (is : compact_object sheet index ≡ Some (object, highest))
+      (modelled : says_modelled sheet object ≡ true) where
+    set_here : sub ≤ highest
+        → listed_in (values_set sheet values index highest) sub ≡ value_pair sheet values (index, sub)
     unfolding values_set
     set_here within =
-        let few : highest ≤ 254 = object_bound ss index object highest is in
-        set_listed (value_pair ss values) (value_pair_keyed ss values) index (highest + 1) sub (omega arith)
-        ∙ ap (λ (t : Bool). cond t (value_pair ss values (index, sub)) None) (lt-ltb sub (highest + 1) (omega arith))
+        let few : highest ≤ 254 = object_bound sheet index object highest is in
+        set_listed (value_pair sheet values) (value_pair_keyed sheet values) index (highest + 1) sub (omega arith)
+        ∙ ap (λ (t : Bool). cond t (value_pair sheet values (index, sub)) None) (lt-ltb sub (highest + 1) (omega arith))
 
     -- in the section that stands
-    in_kept : (v : Section) → values_section ss index ≡ Some v
-        → listed_in (with_values ss values v).pairs sub ≡ listed_in (values_set ss values index highest) sub
+    in_kept : (v : Section) → values_section sheet.sections index ≡ Some v
+        → listed_in (with_values sheet values v).pairs sub ≡ listed_in (values_set sheet values index highest) sub
     unfolding values_section values_pairs_at
     in_kept v at =
         let named : values_named v.name ≡ Some index = index_is index (values_named v.name)
-        (found_passes (λ s. is_index index (values_named s.name)) ss v at) in
+        (found_passes (λ s. is_index index (values_named s.name)) sheet.sections v at) in
         let other = values_is_other v.name index named in
         ap (λ ps. listed_in ps sub)
-        (sym (with_compact ss values v index (no_parameter ss v.name other.no_place other.no_index) named)
+        (sym (with_compact sheet values v index (no_parameter sheet v.name other.no_place other.no_index) named)
         ∙ ap (λ (o : Option (Section × ℕ)). option_map_or
-        (λ c. values_pairs (is_modelled (kind_of c.0)) v.pairs (values_set ss values index c.1)) o v.pairs) is
-        ∙ ap (λ t. values_pairs t v.pairs (values_set ss values index highest)) modelled)
-        ∙ listed_pairs sub v.pairs (values_set ss values index highest)
+        (λ c. values_pairs (says_modelled sheet c.0) v.pairs (values_set sheet values index c.1)) o v.pairs) is
+        ∙ ap (λ t. values_pairs t v.pairs (values_set sheet values index highest)) modelled)
+        ∙ listed_pairs sub v.pairs (values_set sheet values index highest)
 
     -- in the one that is made
     in_new : (set : List Pair)
@@ -315,47 +322,49 @@ module _ (ss : List Section) (values : ℕ × ℕ → Option (List ℕ)) (index 
         by false e = let fails : is_index sub (sub_listed (codes "NrOfEntries")) ≡ false = ap (is_index sub)
             (unlisted (codes "NrOfEntries") refl) in rw fails refl
 
-    made_is : values_section ss index ≡ None
-        → made_section ss values index ≡ new_values index (values_set ss values index highest)
+    made_is : values_section sheet.sections index ≡ None
+        → made_section sheet values index ≡ new_values index (values_set sheet values index highest)
     unfolding made_section
     made_is none = rw (none, is) refl
 
     pub compact_listed : (node : ℕ) (label : List ℕ) (bitrate : ℕ) → index < 0x10000 → sub ≤ highest
-        → is_compact (origin_of ss index sub) ≡ true
-        → listed_value (sections_with ss node label bitrate values) index sub
-        ≡ option_map (text_of_value (kind_at ss (index, sub))) (values (index, sub))
+        → is_compact (origin_of sheet.sections index sub) ≡ true
+        → listed_value (sections_with sheet node label bitrate values) index sub
+        ≡ option_map (text_of_value (kind_at sheet (index, sub))) (values (index, sub))
     unfolding listed_value
     compact_listed node label bitrate low within compacted =
         let place : ℕ × ℕ = (index, sub) in
         ap (option_and_then (λ (s : Section). option_map (λ (p : Pair). p.value) (listed_in s.pairs sub)))
         (values_found node label bitrate low)
-        ∙ by (values_section ss index) refl
+        ∙ by (values_section sheet.sections index) refl
         ∙ ap (option_map (λ (p : Pair). p.value)) (set_here within)
-        ∙ value_pair_value ss values place compacted
+        ∙ value_pair_value sheet values place compacted
       where
-        by : (o : Option Section) → values_section ss index ≡ o
+        by : (o : Option Section) → values_section sheet.sections index ≡ o
             → option_and_then (λ (s : Section). option_map (λ (p : Pair). p.value) (listed_in s.pairs sub))
-            (option_or (option_map (with_values ss values) o) (made_section ss values index))
-            ≡ option_map (λ (p : Pair). p.value) (listed_in (values_set ss values index highest) sub)
+            (option_or (option_map (with_values sheet values) o) (made_section sheet values index))
+            ≡ option_map (λ (p : Pair). p.value) (listed_in (values_set sheet values index highest) sub)
         by None e = ap (option_and_then (λ (s : Section). option_map (λ (p : Pair). p.value) (listed_in s.pairs sub)))
-            (made_is e) ∙ in_new (values_set ss values index highest)
+            (made_is e) ∙ in_new (values_set sheet values index highest)
         by (Some v) e = ap (option_map (λ (p : Pair). p.value)) (in_kept v e)
 
 -- ---- all entries
 
-module _ (ss : List Section) (values : ℕ × ℕ → Option (List ℕ)) (node : ℕ) (label : List ℕ) (bitrate : ℕ)
+module _ (sheet : Sheet) (values : ℕ × ℕ → Option (List ℕ)) (node : ℕ) (label : List ℕ) (bitrate : ℕ)
     (index sub : ℕ) where
   -- what an entry of a compact object stands in
   pub record IsCompactAt (object : Section) (n : ℕ) : Type 0 where
-    pub is : compact_object ss index ≡ Some (object, n)
+    pub is : compact_object sheet index ≡ Some (object, n)
     pub within : sub ≤ n
     pub below : index < 0x10000
 
-  compact_at : (object : Section) (n : ℕ) → origin_of ss index sub ≡ Some (compact object n) → IsCompactAt object n
+  compact_at : (object : Section) (n : ℕ) → origin_of sheet.sections index sub ≡ Some (compact object n)
+      → IsCompactAt object n
   unfolding origin_of compact_object object_section
-  compact_at object n e = by (sub_section ss index sub) (find (λ s. is_index index (index_named s.name)) ss) refl e
+  compact_at object n e =
+      by (sub_section sheet.sections index sub) (find (λ s. is_index index (index_named s.name)) sheet.sections) refl e
     where
-      whole : (s : Section) → find (λ s. is_index index (index_named s.name)) ss ≡ Some s → (c : Option ℕ)
+      whole : (s : Section) → find (λ s. is_index index (index_named s.name)) sheet.sections ≡ Some s → (c : Option ℕ)
           → compact_count s ≡ c → option_and_then (λ n. cond (nat_le sub n) (Some (compact s n)) None) c
           ≡ Some (compact object n) → IsCompactAt object n
       whole s at None h e = absurd (cc)
@@ -373,11 +382,11 @@ module _ (ss : List Section) (values : ℕ × ℕ → Option (List ℕ)) (node :
                     ∙ ap (option_map {T = ℕ} {U = Section × ℕ} (λ n. (s, n))) h ∙ (λ i. Some (first i, second i));
                 within = subst (λ k. sub ≤ k) second (leb-true sub m le);
                 below = index_below s.name index (index_is index (index_named s.name)
-                    (found_passes (λ t. is_index index (index_named t.name)) ss s at));
+                    (found_passes (λ t. is_index index (index_named t.name)) sheet.sections s at));
               }
           within false le e = absurd (cc)
 
-      plain : (s : Section) → find (λ s. is_index index (index_named s.name)) ss ≡ Some s → (t u : Bool)
+      plain : (s : Section) → find (λ s. is_index index (index_named s.name)) sheet.sections ≡ Some s → (t u : Bool)
           → option_or (cond t (cond u (Some (own s)) None) None)
           (option_and_then (λ n. cond (nat_le sub n) (Some (compact s n)) None) (compact_count s))
           ≡ Some (compact object n) → IsCompactAt object n
@@ -390,7 +399,8 @@ module _ (ss : List Section) (values : ℕ × ℕ → Option (List ℕ)) (node :
       nowhere true e = cc
       nowhere false e = cc
 
-      by : (a : Option Section) (b : Option Section) → find (λ s. is_index index (index_named s.name)) ss ≡ b
+      by : (a : Option Section) (b : Option Section)
+          → find (λ s. is_index index (index_named s.name)) sheet.sections ≡ b
           → option_or (option_map own a)
           (option_or (cond (sub == 0) (option_and_then (λ s. cond (is_plain s) (Some (own s)) None) b) None)
           (option_and_then (λ s. option_and_then (λ n. cond (nat_le sub n) (Some (compact s n)) None)
@@ -399,29 +409,33 @@ module _ (ss : List Section) (values : ℕ × ℕ → Option (List ℕ)) (node :
       by None None at e = absurd (nowhere (sub == 0) e)
       by None (Some s) at e = plain s at (sub == 0) (is_plain s) e
 
-  own_kind : (s : Section) → origin_of ss index sub ≡ Some (own s) → kind_at ss (index, sub) ≡ kind_of s
+  own_kind : (s : Section) → origin_of sheet.sections index sub ≡ Some (own s)
+      → kind_at sheet (index, sub) ≡ type_in sheet.is_three (kind_of s)
   unfolding kind_at description_of
-  own_kind s e = ap (λ o. option_map_or (λ (d : Described). d.kind) (option_map (description_by sub) o) NotModelled) e
+  own_kind s e =
+      ap (λ o. option_map_or (λ (d : Described). d.kind)
+      (option_map (λ origin. known_as sheet.is_three (description_by sub origin)) o) NotModelled) e
 
   -- an entry whose section says a modelled type has the value that it is given, and none where it is given none
-  pub stands : is_typed ss (index, sub) ≡ true
-      → value_that_stands (sections_with ss node label bitrate values) (index, sub)
-      ≡ option_map (text_of_value (kind_at ss (index, sub))) (values (index, sub))
+  pub stands : is_typed sheet (index, sub) ≡ true
+      → value_that_stands (sections_with sheet node label bitrate values) (index, sub)
+      ≡ option_map (text_of_value (kind_at sheet (index, sub))) (values (index, sub))
   unfolding is_typed value_that_stands
   stands typed =
-      ap (option_and_then (value_by (sections_with ss node label bitrate values) index sub))
-      (origin_same ss values node label bitrate index sub)
-      ∙ by (origin_of ss index sub) refl typed
+      ap (option_and_then (value_by (sections_with sheet node label bitrate values) index sub))
+      (origin_same sheet values node label bitrate index sub)
+      ∙ by (origin_of sheet.sections index sub) refl typed
     where
-      by : (o : Option Origin) → origin_of ss index sub ≡ o
-          → option_map_or (λ origin. is_modelled (kind_of (section_in origin))) o false ≡ true
-          → option_and_then (value_by (sections_with ss node label bitrate values) index sub)
-          (option_map (map_origin (with_values ss values)) o) ≡ option_map (text_of_value (kind_at ss (index, sub)))
+      by : (o : Option Origin) → origin_of sheet.sections index sub ≡ o
+          → option_map_or (λ origin. says_modelled sheet (section_in origin)) o false ≡ true
+          → option_and_then (value_by (sections_with sheet node label bitrate values) index sub)
+          (option_map (map_origin (with_values sheet values)) o)
+          ≡ option_map (text_of_value (kind_at sheet (index, sub)))
           (values (index, sub))
       by None e h = absurd (false≢true h)
       by (Some (own s)) e h =
           let place : ℕ × ℕ = (index, sub) in
-          parameter_there ss values s place (entry_placed ss index sub s e (ap is_modelled (own_kind s e) ∙ h))
+          parameter_there sheet values s place (entry_placed sheet index sub s e (ap is_modelled (own_kind s e) ∙ h))
       by (Some (compact s n)) e h =
           let at = compact_at s n e in
-          compact_listed ss values index sub s n at.is h node label bitrate at.below at.within (ap is_compact e)
+          compact_listed sheet values index sub s n at.is h node label bitrate at.below at.within (ap is_compact e)

@@ -11,6 +11,7 @@ use Rattle.std.specs.Str.{byte}
 use Rattle.ini_text.specs.Content.{Pair, Section}
 use Rattle.ini_text.specs.Change.{pair_text, section_text, text_of}
 use Rattle.eds_device.specs.Places.{first_subs, pairs_of}
+use Rattle.eds_device.specs.Sheets.{Sheet}
 use Rattle.eds_dcf.specs.Commissioning.{commissioning, first_spelling, node_pairs, others}
 use Rattle.eds_dcf.specs.Commissioning.{others_beside, pairs_named, second_spelling}
 use Rattle.eds_dcf.specs.Compact.{made_section, new_values, value_pair, values_name, values_set}
@@ -80,11 +81,12 @@ set_more h index n items after o e is ha =
     ha ∙ ap (λ t. t ++ option_to_list o) e ∙ ap (λ p. filter_map h (first_subs index n) ++ option_to_list p) is
     ∙ sym (ap (λ m. filter_map h (first_subs index m)) (add-one n) ∙ filter_map-push h (first_subs index n) (index, n))
 
-pub set_whole : (ss : List Section) (values : ℕ × ℕ → Option (List ℕ)) (index n highest : ℕ) (items : List Pair)
-    → items ≡ filter_map (value_pair ss values) (first_subs index n) → n ≡ highest + 1
-    → items ≡ values_set ss values index highest
+pub set_whole : (sheet : Sheet) (values : ℕ × ℕ → Option (List ℕ)) (index n highest : ℕ) (items : List Pair)
+    → items ≡ filter_map (value_pair sheet values) (first_subs index n) → n ≡ highest + 1
+    → items ≡ values_set sheet values index highest
 unfolding values_set
-set_whole ss values index n highest items e is = e ∙ ap (λ m. filter_map (value_pair ss values) (first_subs index m)) is
+set_whole sheet values index n highest items e is =
+    e ∙ ap (λ m. filter_map (value_pair sheet values) (first_subs index m)) is
 
 -- one more entry of which a section may be made
 pub made_more : (h : ℕ → Option Section) (ps : List (ℕ × ℕ)) (i : ℕ) (d : ℕ × ℕ) (start before after : List ℕ)
@@ -118,13 +120,13 @@ made_aside h place before after other is =
     (ne_eqb place.1 0 other))
 
 -- all of them
-pub made_whole : (ss : List Section) (values : ℕ × ℕ → Option (List ℕ)) (ps : List (ℕ × ℕ)) (i : ℕ) (start out : List ℕ)
-    → ps ≡ pairs_of ss → length ps ≤ i
-    → out ≡ start ++ text_of (filter_map (at_first (made_section ss values)) (take i ps))
-    → out ≡ start ++ text_of (made_sections ss values)
-made_whole ss values ps i start out is past e =
-    e ∙ ap (λ qs. start ++ text_of (filter_map (at_first (made_section ss values)) qs)) (take_all i ps past ∙ is)
-    ∙ ap (λ t. start ++ text_of t) (walk_makes ss values)
+pub made_whole : (sheet : Sheet) (values : ℕ × ℕ → Option (List ℕ)) (ps : List (ℕ × ℕ)) (i : ℕ) (start out : List ℕ)
+    → ps ≡ pairs_of sheet.sections → length ps ≤ i
+    → out ≡ start ++ text_of (filter_map (at_first (made_section sheet values)) (take i ps))
+    → out ≡ start ++ text_of (made_sections sheet values)
+made_whole sheet values ps i start out is past e =
+    e ∙ ap (λ qs. start ++ text_of (filter_map (at_first (made_section sheet values)) qs)) (take_all i ps past ∙ is)
+    ∙ ap (λ t. start ++ text_of t) (walk_makes sheet values)
 
 -- nothing is added for none
 pub nothing_more : (out : List ℕ) (o : Option Section) → o ≡ None

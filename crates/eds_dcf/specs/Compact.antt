@@ -8,16 +8,18 @@ use Rattle.std.specs.Option.{option_map_or}
 use Rattle.base.specs.Digits.{index_digits}
 use Rattle.ini_text.specs.Content.{Pair, Section}
 use Rattle.ini_text.specs.Change.{put_value}
-use Rattle.co_values.specs.Types.{is_modelled}
 use Rattle.co_values.specs.Values.{text_of_value}
 use Rattle.eds_device.specs.Described.{kind_at}
 use Rattle.eds_device.specs.Places.{first_subs}
-use Rattle.eds_device.specs.Sections.{compact_count, kind_of}
+use Rattle.eds_device.specs.Sections.{compact_count}
 use Rattle.eds_device.specs.Origins.{Origin, own, compact, object_section, values_section, origin_of}
+use Rattle.eds_device.specs.Sheets.{Sheet}
+use Rattle.eds_dcf.specs.Entries.{says_modelled}
 
 -- a compact object: its section, and its highest sub-index
-unfoldable pub compact_object : List Section → ℕ → Option (Section × ℕ)
-compact_object ss index = option_and_then (λ s. option_map (λ n. (s, n)) (compact_count s)) (object_section ss index)
+unfoldable pub compact_object : Sheet → ℕ → Option (Section × ℕ)
+compact_object sheet index = option_and_then (λ s. option_map (λ n. (s, n)) (compact_count s))
+    (object_section sheet.sections index)
 
 -- whether an entry stands in the section of a compact object
 abbrev pub is_compact : Option Origin → Bool
@@ -26,16 +28,16 @@ is_compact (Some (own section)) = false
 is_compact (Some (compact section highest)) = true
 
 -- `k=value` for a compact sub k with a value: k in decimal digits, and the value as a DCF prints it
-unfoldable pub value_pair : List Section → (ℕ × ℕ → Option (List ℕ)) → ℕ × ℕ → Option Pair
-value_pair ss values place =
-    if is_compact (origin_of ss place.0 place.1)
-    then option_map (λ bytes. record { key = decimal place.1; value = text_of_value (kind_at ss place) bytes })
+unfoldable pub value_pair : Sheet → (ℕ × ℕ → Option (List ℕ)) → ℕ × ℕ → Option Pair
+value_pair sheet values place =
+    if is_compact (origin_of sheet.sections place.0 place.1)
+    then option_map (λ bytes. record { key = decimal place.1; value = text_of_value (kind_at sheet place) bytes })
     (values place)
     else None
 
 -- the values that are set of an object's compact subs, by sub
-unfoldable pub values_set : List Section → (ℕ × ℕ → Option (List ℕ)) → ℕ → ℕ → List Pair
-values_set ss values index highest = filter_map (value_pair ss values) (first_subs index (highest + 1))
+unfoldable pub values_set : Sheet → (ℕ × ℕ → Option (List ℕ)) → ℕ → ℕ → List Pair
+values_set sheet values index highest = filter_map (value_pair sheet values) (first_subs index (highest + 1))
 
 -- decimal digits alone
 abbrev pub is_decimal : List ℕ → Bool
@@ -62,10 +64,10 @@ values_pairs modelled pairs set =
     then with_count (with_set modelled pairs set) else pairs
 
 -- of a section `[xxxxValue]` of a compact object; that of another object stays
-unfoldable pub values_pairs_at : List Section → (ℕ × ℕ → Option (List ℕ)) → ℕ → List Pair → List Pair
-values_pairs_at ss values index pairs =
-    option_map_or (λ c. values_pairs (is_modelled (kind_of c.0)) pairs (values_set ss values index c.1))
-    (compact_object ss index) pairs
+unfoldable pub values_pairs_at : Sheet → (ℕ × ℕ → Option (List ℕ)) → ℕ → List Pair → List Pair
+values_pairs_at sheet values index pairs =
+    option_map_or (λ c. values_pairs (says_modelled sheet c.0) pairs (values_set sheet values index c.1))
+    (compact_object sheet index) pairs
 
 -- `xxxxValue` with four upper-case digits
 abbrev pub values_name : ℕ → List ℕ
@@ -81,7 +83,7 @@ new_values index set =
     })
 
 -- the section that is made for a compact object without one
-unfoldable pub made_section : List Section → (ℕ × ℕ → Option (List ℕ)) → ℕ → Option Section
-made_section ss values index =
-    if is_some (values_section ss index) then None
-    else option_and_then (λ c. new_values index (values_set ss values index c.1)) (compact_object ss index)
+unfoldable pub made_section : Sheet → (ℕ × ℕ → Option (List ℕ)) → ℕ → Option Section
+made_section sheet values index =
+    if is_some (values_section sheet.sections index) then None
+    else option_and_then (λ c. new_values index (values_set sheet values index c.1)) (compact_object sheet index)

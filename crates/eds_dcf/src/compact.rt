@@ -23,7 +23,7 @@ use std::alloc::{AllocError, Global};
 /// A compact object's section, and its highest sub-index.
 #[tactic(auto, unfolding(crate::specs::Compact::compact_object))]
 fn compact_object(device: &DataSheet, index: u16) -> Option<(&Section, u8)>
-    ensures { option_map (λ object. (object.0.now, object.1)) result ≡ object_of device.now.sections index }
+    ensures { option_map (λ object. (object.0.now, object.1)) result ≡ object_of device.now index }
 {
     let section = device.object_section(index)?;
     let highest = compact_count(section)?;
@@ -45,8 +45,8 @@ fn value_setting(
     index: u16,
     sub: u8,
 ) -> Result<Option<Setting>, AllocError>
-    requires { (place : ℕ × ℕ) → IfSome (get values.now place) (Fits (kind_at device.now.sections place)) }
-    ensures { IfOk result (λ setting. setting ≡ value_pair device.now.sections (get values.now) (index, sub)) }
+    requires { (place : ℕ × ℕ) → IfSome (get values.now place) (Fits (kind_at device.now place)) }
+    ensures { IfOk result (λ setting. setting ≡ value_pair device.now (get values.now) (index, sub)) }
 {
     let Some(bytes) = values.read(index, sub) else {
         return Ok(None);
@@ -77,8 +77,8 @@ fn values_set(
     index: u16,
     highest: u8,
 ) -> Result<Vec<Setting>, AllocError>
-    requires { (place : ℕ × ℕ) → IfSome (get values.now place) (Fits (kind_at device.now.sections place)) }
-    ensures { IfOk result (λ set. set.items ≡ values_set_of device.now.sections (get values.now) index highest) }
+    requires { (place : ℕ × ℕ) → IfSome (get values.now place) (Fits (kind_at device.now place)) }
+    ensures { IfOk result (λ set. set.items ≡ values_set_of device.now (get values.now) index highest) }
 {
     let mut set = Vec::new(alloc);
     for sub in 0..u16::from(highest) + 1 {
@@ -124,9 +124,9 @@ pub(crate) fn put_made(
     values: &Written,
     index: u16,
 ) -> Result<(), AllocError>
-    requires { (place : ℕ × ℕ) → IfSome (get values.now place) (Fits (kind_at device.now.sections place)) }
+    requires { (place : ℕ × ℕ) → IfSome (get values.now place) (Fits (kind_at device.now place)) }
     ensures { OnOk result (out.new.items ≡ out.old.items
-        ++ flat_map section_text (option_to_list (made_section device.now.sections (get values.now) index))) }
+        ++ flat_map section_text (option_to_list (made_section device.now (get values.now) index))) }
 {
     if !values.may_have(Some(index)) {
         return Ok(());
@@ -152,11 +152,11 @@ pub(crate) fn put_values_section(
     section: &Section,
     index: u16,
 ) -> Result<(), AllocError>
-    requires { (place : ℕ × ℕ) → IfSome (get values.now place) (Fits (kind_at device.now.sections place)) }
+    requires { (place : ℕ × ℕ) → IfSome (get values.now place) (Fits (kind_at device.now place)) }
     ensures { OnOk result (out.new.items ≡ out.old.items
         ++ section_text (record {
           name = section.now.name;
-          pairs = values_pairs_at device.now.sections (get values.now) index section.now.pairs;
+          pairs = values_pairs_at device.now (get values.now) index section.now.pairs;
         })) }
 {
     put_name(out, section.name())?;
@@ -168,7 +168,7 @@ pub(crate) fn put_values_section(
     put_values(
         out,
         alloc,
-        kind_of(object).is_modelled(),
+        kind_of(object).in_version(device.is_three()).is_modelled(),
         section.pairs(),
         set,
     )?;

@@ -50,8 +50,8 @@ pub(crate) struct Parameter {
 /// The modelled entry that stands in the section of a name, by one look-up, near a position first.
 #[tactic(auto, unfolding(crate::specs::Entries::parameter_place))]
 pub(crate) fn parameter_of(device: &DataSheet, near: usize, name: &[u8]) -> Option<Parameter>
-    ensures place { option_map (λ p. (p.index, p.sub)) result ≡ parameter_place device.now.sections name.now }
-    ensures kind { IfSome result (λ p. p.kind ≡ kind_at device.now.sections (p.index, p.sub)) }
+    ensures place { option_map (λ p. (p.index, p.sub)) result ≡ parameter_place device.now name.now }
+    ensures kind { IfSome result (λ p. p.kind ≡ kind_at device.now (p.index, p.sub)) }
 {
     let (index, sub) = own_place(name)?;
     let Placed {

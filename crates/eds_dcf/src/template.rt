@@ -22,7 +22,7 @@ use std::rc::Rc;
 type Room = (Option<u16>, usize);
 
 /// What the DCFs of one data sheet have alike: the text of its sections where no entry has a value.
-/// Contracts see it as the content of the sheet.
+/// Contracts see it as the sheet.
 #[derive(Drop)]
 pub struct Template {
     device: Rc<DataSheet>,
@@ -31,14 +31,14 @@ pub struct Template {
 }
 
 impl Model for Template {
-    ghost use Rattle.ini_text.specs.Content.{Content};
+    ghost use Rattle.eds_device.specs.Sheets.{Sheet};
     ghost use Rattle.eds_dcf.specs.Template.{IsTemplate};
 
-    ghost Value = { Content };
+    ghost Value = { Sheet };
 
     ghost view = { λ t. t.device.value };
 
-    ghost invariant = { λ t. IsTemplate t.device.value.sections t.rooms.items t.text.items };
+    ghost invariant = { λ t. IsTemplate t.device.value t.rooms.items t.text.items };
 }
 
 /// The object that a name begins with.
@@ -54,7 +54,7 @@ fn object_begun(name: &[u8]) -> Option<u16>
 
 /// What a template has of each section of a device, and the text where no entry has a value.
 fn rooms_of(alloc: Global, device: &DataSheet) -> Result<(Vec<Room>, Vec<u8>), AllocError>
-    ensures { IfOk result (λ parts. IsTemplate device.now.sections parts.0.items parts.1.items) }
+    ensures { IfOk result (λ parts. IsTemplate device.now parts.0.items parts.1.items) }
 {
     let values = Written::none(alloc);
     let mut rooms = Vec::new(alloc);
@@ -78,10 +78,10 @@ fn put_runs(
     text: &[u8],
     values: &Written,
 ) -> Result<(), AllocError>
-    requires fits { (place : ℕ × ℕ) → IfSome (get values.now place) (Fits (kind_at device.now.sections place)) }
-    requires template { IsTemplate device.now.sections rooms.now text.now }
+    requires fits { (place : ℕ × ℕ) → IfSome (get values.now place) (Fits (kind_at device.now place)) }
+    requires template { IsTemplate device.now rooms.now text.now }
     ensures { OnOk result (out.new.items ≡ out.old.items
-        ++ flat_map (piece device.now.sections (get values.now)) device.now.sections) }
+        ++ flat_map (piece device.now (get values.now)) device.now.sections) }
 {
     let sections = device.sections();
     out.reserve(text.len())?;
@@ -126,9 +126,9 @@ impl Template {
         bitrate: u16,
         writes: &[Write],
     ) -> Result<Vec<u8>, AllocError>
-        requires { All (λ w. Fits (kind_at self.now.sections (w.index, w.sub)) w.bytes) writes.now }
+        requires { All (λ w. Fits (kind_at self.now (w.index, w.sub)) w.bytes) writes.now }
         ensures { IfOk result (λ text. text.items
-            ≡ text_of (dcf_sections self.now.sections node name.now bitrate writes.now)) }
+            ≡ text_of (dcf_sections self.now node name.now bitrate writes.now)) }
     {
         let values = Written::by(alloc, writes)?;
         let mut out = Vec::new(alloc);

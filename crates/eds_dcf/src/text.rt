@@ -27,9 +27,9 @@ pub(crate) fn put_with_values(
     near: usize,
     section: &Section,
 ) -> Result<usize, AllocError>
-    requires { (place : ℕ × ℕ) → IfSome (get values.now place) (Fits (kind_at device.now.sections place)) }
+    requires { (place : ℕ × ℕ) → IfSome (get values.now place) (Fits (kind_at device.now place)) }
     ensures { OnOk result (out.new.items ≡ out.old.items
-        ++ piece device.now.sections (get values.now) section.now) }
+        ++ piece device.now (get values.now) section.now) }
 {
     if is_commissioning(section.name()) {
         return Ok(near);
@@ -54,9 +54,9 @@ fn put_sections(
     device: &DataSheet,
     values: &Written,
 ) -> Result<(), AllocError>
-    requires { (place : ℕ × ℕ) → IfSome (get values.now place) (Fits (kind_at device.now.sections place)) }
+    requires { (place : ℕ × ℕ) → IfSome (get values.now place) (Fits (kind_at device.now place)) }
     ensures { OnOk result (out.new.items ≡ out.old.items
-        ++ flat_map (piece device.now.sections (get values.now)) device.now.sections) }
+        ++ flat_map (piece device.now (get values.now)) device.now.sections) }
 {
     let mut near = 0;
     for section in device.sections() {
@@ -73,9 +73,9 @@ pub(crate) fn put_all_made(
     device: &DataSheet,
     values: &Written,
 ) -> Result<(), AllocError>
-    requires { (place : ℕ × ℕ) → IfSome (get values.now place) (Fits (kind_at device.now.sections place)) }
+    requires { (place : ℕ × ℕ) → IfSome (get values.now place) (Fits (kind_at device.now place)) }
     ensures { OnOk result (out.new.items ≡ out.old.items
-        ++ text_of (made_sections device.now.sections (get values.now))) }
+        ++ text_of (made_sections device.now (get values.now))) }
 {
     for (index, sub) in device.pairs() {
         if *sub == 0 {
@@ -101,9 +101,9 @@ pub fn dcf_text(
     bitrate: u16,
     writes: &[Write],
 ) -> Result<Vec<u8>, AllocError>
-    requires { All (λ w. Fits (kind_at device.now.sections (w.index, w.sub)) w.bytes) writes.now }
+    requires { All (λ w. Fits (kind_at device.now (w.index, w.sub)) w.bytes) writes.now }
     ensures { IfOk result (λ text. text.items
-        ≡ text_of (dcf_sections device.now.sections node name.now bitrate writes.now)) }
+        ≡ text_of (dcf_sections device.now node name.now bitrate writes.now)) }
 {
     let values = Written::by(alloc, writes)?;
     let mut out = Vec::new(alloc);

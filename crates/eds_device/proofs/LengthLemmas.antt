@@ -3,19 +3,20 @@ use Rattle.std.proofs.Common.{◌≡◌, ℕ, ◌≤◌, Bool, true, false, List
 use Rattle.std.proofs.Common.{arith}
 use Rattle.std.specs.Prelude.{if◌then◌else◌, nat_le, option_map, option_and_then, unwrap_or, MatchOption}
 use Rattle.std.proofs.lemmas.Bool.{leb-true}
+use Rattle.std.proofs.lemmas.List.{length-replicate}
 use Rattle.byteorder.specs.Endian.{little_bytes}
 use Rattle.byteorder.specs.Numbers.{length-bytes_low_first}
 use Rattle.co_values.specs.declared.data_type.DataType.{DataType}
 use Rattle.co_values.specs.declared.form.Form.{Form}
-use Rattle.co_values.specs.declared.form.Form.TheVariants.{Flag, Signed, Unsigned, Characters, HexPairs, Unmodelled}
-use Rattle.co_values.specs.declared.form.Width.TheVariants.{Bits8, Bits16, Bits32, Bits64}
+use Rattle.co_values.specs.declared.form.Form.TheVariants.{Flag, Signed, Unsigned, Decimal, Characters, HexPairs, Unmodelled}
 use Rattle.co_values.specs.Number.{formula}
-use Rattle.co_values.specs.Types.{form, octets, len_of_form}
+use Rattle.co_values.specs.Types.{form, octets, len_of_form, real_octets}
 use Rattle.co_values.specs.Values.{value, value_in, zero_of_form, zero_value, longest_value, if_not_too_long, bytes_of_pairs}
 use Rattle.co_values.specs.Values.{flag_bits, unsigned_bits, signed_text_bits}
 use Rattle.eds_device.specs.Described.{Default, written, count}
 use Rattle.eds_device.specs.Entries.{default_bytes}
 use Rattle.co_dict.specs.Values.{HasLength}
+use Rattle.co_values.proofs.Printed.{octets_most, real_width}
 
 abbrev HasLengthIn : Form → List ℕ → Type 0
 HasLengthIn f bytes = MatchOption (len_of_form f) (length bytes ≤ longest_value) (λ n. length bytes ≡ n)
@@ -45,20 +46,16 @@ value_length Flag text node bytes e = number_length 1 (option_and_then flag_bits
 value_length (Signed width) text node bytes e = number_length (octets width) (signed_text_bits width text node) bytes e
 value_length (Unsigned width) text node bytes e = number_length (octets width)
     (option_and_then (unsigned_bits width) (formula text node)) bytes e
+value_length (Decimal real) text node bytes e = number_length (real_octets real) _ bytes e
 value_length Characters text node bytes e = short text bytes e
 value_length HexPairs text node bytes e = short_pairs (bytes_of_pairs text) bytes e
 value_length Unmodelled text node bytes e = cc
 
 zero_length : (f : Form) → HasLengthIn f (zero_of_form f)
 zero_length Flag = refl
-zero_length (Signed Bits8) = refl
-zero_length (Signed Bits16) = refl
-zero_length (Signed Bits32) = refl
-zero_length (Signed Bits64) = refl
-zero_length (Unsigned Bits8) = refl
-zero_length (Unsigned Bits16) = refl
-zero_length (Unsigned Bits32) = refl
-zero_length (Unsigned Bits64) = refl
+zero_length (Signed width) = length-replicate (octets width) 0
+zero_length (Unsigned width) = length-replicate (octets width) 0
+zero_length (Decimal real) = length-replicate (real_octets real) 0
 zero_length Characters = omega arith
 zero_length HexPairs = omega arith
 zero_length Unmodelled = omega arith
@@ -79,14 +76,9 @@ length_within kind bytes h = by (form kind) h
   where
     by : (f : Form) → HasLengthIn f bytes → length bytes ≤ longest_value
     by Flag h = omega arith
-    by (Signed Bits8) h = omega arith
-    by (Signed Bits16) h = omega arith
-    by (Signed Bits32) h = omega arith
-    by (Signed Bits64) h = omega arith
-    by (Unsigned Bits8) h = omega arith
-    by (Unsigned Bits16) h = omega arith
-    by (Unsigned Bits32) h = omega arith
-    by (Unsigned Bits64) h = omega arith
+    by (Signed width) h = omega (arith, h, octets_most width)
+    by (Unsigned width) h = omega (arith, h, octets_most width)
+    by (Decimal real) h = omega (arith, h, (real_width real).1, octets_most (real_width real).0)
     by Characters h = h
     by HexPairs h = h
     by Unmodelled h = h

@@ -12,6 +12,7 @@ use Rattle.co_dict.specs.declared.entry.Entry.{Entry}
 use Rattle.co_dict.specs.Shapes.{Shaped}
 use Rattle.co_dict.specs.Values.{Values}
 use Rattle.eds_device.specs.Described.{Default, written, count, Described, description_of, is_not_zero}
+use Rattle.eds_device.specs.Sheets.{Sheet}
 use Rattle.eds_places.specs.Places.{pairs_of}
 
 -- the number of the value that a text spells
@@ -33,8 +34,8 @@ entry_by node d = record {
 }
 
 -- an entry of the device at a node
-unfoldable pub entry_at : List Section → ℕ → ℕ → ℕ → Option Entry
-entry_at ss node index sub = option_map (entry_by node) (description_of ss index sub)
+unfoldable pub entry_at : Sheet → ℕ → ℕ → ℕ → Option Entry
+entry_at sheet node index sub = option_map (entry_by node) (description_of sheet index sub)
 
 -- a text that spells no value of the type is 0 or the empty string
 abbrev pub default_bytes : DataType → Default → ℕ → List ℕ
@@ -46,8 +47,8 @@ abbrev pub default_by : ℕ → Described → Option (List ℕ)
 default_by node d = if is_modelled d.kind then Some (default_bytes d.kind d.default node) else None
 
 -- the default of an entry of a modelled type at a node
-unfoldable pub default_at : List Section → ℕ → ℕ → ℕ → Option (List ℕ)
-default_at ss node index sub = option_and_then (default_by node) (description_of ss index sub)
+unfoldable pub default_at : Sheet → ℕ → ℕ → ℕ → Option (List ℕ)
+default_at sheet node index sub = option_and_then (default_by node) (description_of sheet index sub)
 
 -- the key of a dummy's type, from 1 to 7
 abbrev pub dummy_key : ℕ → List ℕ
@@ -71,12 +72,12 @@ given_at f [] = []
 given_at f (p ∷ ps) = option_map_or (λ x. (p, x) ∷ given_at f ps) (f p) (given_at f ps)
 
 -- all entries at a node, and the allowed dummies
-unfoldable pub shape_of : List Section → ℕ → Shaped
-shape_of ss node = record {
-  entries = from_entries (given_at (λ p. entry_at ss node p.0 p.1) (pairs_of ss));
-  dummies = dummies_of ss;
+unfoldable pub shape_of : Sheet → ℕ → Shaped
+shape_of sheet node = record {
+  entries = from_entries (given_at (λ p. entry_at sheet node p.0 p.1) (pairs_of sheet.sections));
+  dummies = dummies_of sheet.sections;
 }
 
 -- all defaults at a node
-unfoldable pub defaults_of : List Section → ℕ → Values
-defaults_of ss node = from_entries (given_at (λ p. default_at ss node p.0 p.1) (pairs_of ss))
+unfoldable pub defaults_of : Sheet → ℕ → Values
+defaults_of sheet node = from_entries (given_at (λ p. default_at sheet node p.0 p.1) (pairs_of sheet.sections))

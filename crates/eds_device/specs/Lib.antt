@@ -7,4 +7,5 @@ pub mod Names
 pub mod Origins
 pub mod Places
 pub mod Sections
+pub mod Sheets
 pub mod Shown

@@ -96,7 +96,7 @@ impl DataSheet {
         ensures { IfOk result (λ fixed. IsTrue fixed → (node : ℕ) → shape.new
             ≡ record shape.old {
               entries = option_map_or (map.insert shape.old.entries (index, sub))
-                  (entry_at self.now.sections node index sub) shape.old.entries;
+                  (entry_at self.now node index sub) shape.old.entries;
             }) }
     {
         let Some(described) = self.described(index, sub) else {
@@ -112,7 +112,7 @@ impl DataSheet {
     /// The shape at every node, where no entry may differ from node to node.
     #[tactic(auto, unfolding(crate::specs::Entries::shape_of))]
     fn common_shape(&self) -> Result<Option<Shape>, AllocError>
-        ensures { IfOk result (λ common. IsCommon self.now.sections common) }
+        ensures { IfOk result (λ common. IsCommon self.now common) }
     {
         let mut shape = Shape::new(self.allocator(), self.dummies());
         for place in self.pairs() {
@@ -127,7 +127,7 @@ impl DataSheet {
 
     /// The same, which is that of a device before where that is equal.
     fn common_shape_or(&self, before: Option<&Shape>) -> Result<Option<Shape>, AllocError>
-        ensures { IfOk result (λ common. IsCommon self.now.sections common) }
+        ensures { IfOk result (λ common. IsCommon self.now common) }
     {
         match (self.common_shape()?, before) {
             (Some(shape), Some(before)) => {
@@ -142,7 +142,7 @@ impl DataSheet {
     #[tactic(auto, using(crate::proofs::DefaultLemmas::default_alike))]
     fn may_differ(&self, index: u16, sub: u8) -> bool
         ensures { IsFalse result → (node other : ℕ)
-            → default_at self.now.sections node index sub ≡ default_at self.now.sections other index sub }
+            → default_at self.now node index sub ≡ default_at self.now other index sub }
     {
         match self.described(index, sub) {
             Some(described) => may_vary(&described),
@@ -158,9 +158,9 @@ impl DataSheet {
         index: u16,
         sub: u8,
     ) -> Result<(), AllocError>
-        ensures { OnOk result ((node : ℕ) → with_defaults self.now.sections node others.new.items values.new
-            ≡ with_default self.now.sections node (index, sub)
-            (with_defaults self.now.sections node others.old.items values.old)) }
+        ensures { OnOk result ((node : ℕ) → with_defaults self.now node others.new.items values.new
+            ≡ with_default self.now node (index, sub)
+            (with_defaults self.now node others.old.items values.old)) }
     {
         if self.may_differ(index, sub) {
             others.push((index, sub))?;
@@ -174,7 +174,7 @@ impl DataSheet {
     /// The defaults that are the same at each node, and the entries with others. Takes time by the number of
     /// entries and its logarithm.
     fn alike_defaults(&self) -> Result<Alike, AllocError>
-        ensures { IfOk result (AreAlike self.now.sections) }
+        ensures { IfOk result (AreAlike self.now) }
     {
         let mut values = Dict::new(self.allocator());
         let mut others = Vec::new(self.allocator());
@@ -186,7 +186,7 @@ impl DataSheet {
 
     /// What it has alike at every node.
     fn common_part(&self, before: Option<&Shape>) -> Result<Common, AllocError>
-        ensures { IfOk result (λ common. IsOfAll self.now.sections common) }
+        ensures { IfOk result (λ common. IsOfAll self.now common) }
     {
         let shape = self.common_shape_or(before)?;
         let alike = self.alike_defaults()?;
@@ -206,6 +206,7 @@ impl DataSheet {
         let text = share_text(&self.text)?;
         Ok(DataSheet {
             reading,
+            is_three: self.is_three,
             text,
             common: Some(common),
         })
@@ -213,7 +214,7 @@ impl DataSheet {
 
     /// The shape that is kept for all nodes, where `with_common` found it.
     pub fn kept_shape(&self) -> Option<&Shape>
-        ensures { IfSome result (λ shape. (node : ℕ) → shape.now ≡ shape_of self.now.sections node) }
+        ensures { IfSome result (λ shape. (node : ℕ) → shape.now ≡ shape_of self.now node) }
     {
         match &self.common {
             Some(common) => common.shape.as_ref(),
@@ -224,7 +225,7 @@ impl DataSheet {
     /// What `shape` answers. Takes constant time and no memory where `with_common` found it, and the time
     /// and the memory of `shape` else.
     pub fn shared_shape(&self, node: u8) -> Result<Shape, AllocError>
-        ensures { IfOk result (λ shape. shape ≡ shape_of self.now.sections node) }
+        ensures { IfOk result (λ shape. shape ≡ shape_of self.now node) }
     {
         match self.kept_shape() {
             Some(shape) => shape.share(),

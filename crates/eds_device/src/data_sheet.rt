@@ -1,5 +1,5 @@
 //! A device, and where its entries stand.
-ghost use Rattle.std.specs.Prelude.{◌≡◌, ◌≤◌, length, IfSome, IsTrue, ◌↔◌, IsErrOf};
+ghost use Rattle.std.specs.Prelude.{◌≡◌, ◌≤◌, ◌&&◌, length, IfOk, IfSome, IsTrue, ◌↔◌, IsErrOf};
 ghost use Rattle.std.specs.Bool.{IsFalse};
 ghost use Rattle.std.specs.Option.{option_copied, option_map};
 ghost use Rattle.ini_text.specs.Content.{content_of};
@@ -10,9 +10,11 @@ ghost use Rattle.eds_places.specs.Places.{pairs_of};
 ghost use Rattle.eds_places.specs.Shown.{origin_shown};
 ghost use Rattle.eds_places.specs.Origins.{object_section, values_section, origin_of};
 ghost use Rattle.eds_device.specs.Faults.{device_of};
+ghost use Rattle.eds_device.specs.Sheets.{content_in, has_new_types};
 ghost use Rattle.eds_device.specs.Common.{AreAlike};
 
 use crate::common::{Alike, Common};
+use crate::described::has_new_types;
 use base::Octets;
 use eds_places::{DeviceFault, Origin, Reading, places_of};
 use ini_text::{Ini, Section};
@@ -20,12 +22,14 @@ use std::alloc::Global;
 use std::marker::Model;
 use std::sync::Arc;
 
-/// The device that an EDS text describes (CiA 306). Contracts see it as the content of the text.
+/// The device that an EDS text describes (CiA 306). Contracts see it as a `Sheet`: the content of the text, and
+/// whether the data types that version 3 alone models count.
 ///
 /// It has at most 4,096 entries. A look-up takes time by the logarithm of the sections.
 #[derive(Drop)]
 pub struct DataSheet {
     pub(crate) reading: Arc<Reading>,
+    pub(crate) is_three: bool,
     pub(crate) text: Option<Arc<Octets>>,
     pub(crate) common: Option<Common>,
 }
@@ -33,34 +37,38 @@ pub struct DataSheet {
 impl Model for DataSheet {
     ghost use Rattle.std.specs.Arc.{arc_value};
     ghost use Rattle.std.specs.Prelude.{◌≡◌, IfSome, option_map};
-    ghost use Rattle.ini_text.specs.Content.{Content, content_of};
     ghost use Rattle.eds_device.specs.Common.{IsOfAll};
+    ghost use Rattle.eds_device.specs.Sheets.{Sheet, sheet_with};
+    ghost use Rattle.ini_text.specs.Content.{content_of};
 
-    ghost Value = { Content };
+    ghost Value = { Sheet };
 
-    ghost view = { λ a. arc_value a.reading };
+    ghost view = { λ a. sheet_with a.is_three (arc_value a.reading) };
 
     ghost invariant = { λ a. let content = arc_value a.reading
-        in IfSome a.common (λ c. IsOfAll content.sections c)
+        in IfSome a.common (λ c. IsOfAll (sheet_with a.is_three content) c)
         × IfSome (option_map arc_value a.text) (λ t. content ≡ content_of t) };
 }
 
 impl DataSheet {
-    /// Reads an EDS text: `Range` where it or a line of it is too long, else `BadByte` where it has
-    /// a byte that no INI text may have, else `Limit` where it gives over 4,096 entries. `Memory` can
-    /// come in place of the content or of `Limit` alone. Takes time by the length of the text and its
-    /// logarithm, and no memory for the entries past the limit.
-    pub fn read(alloc: Global, text: &[u8]) -> Result<DataSheet, DeviceFault>
-        ensures content { Gives is_memory (λ device. device) result (device_of text.now) }
+    /// Reads an EDS text by the rules of version 3, or by those of the versions before it, which model fewer data
+    /// types: `Range` where it or a line of it is too long, else `BadByte` where it has a byte that no INI text may
+    /// have, else `Limit` where it gives over 4,096 entries. `Memory` can come in place of the content or of `Limit`
+    /// alone. Takes time by the length of the text and its logarithm, and no memory for the entries past the limit.
+    pub fn read(alloc: Global, is_three: bool, text: &[u8]) -> Result<DataSheet, DeviceFault>
+        ensures content { Gives is_memory content_in result (device_of text.now) }
+        ensures version { IfOk result (λ device. device.is_three ≡ (is_three && has_new_types device.sections)) }
         ensures range { IsErrOf result DeviceFault.Range ↔ IsTrue (is_out_of_range text.now) }
         ensures bad_byte { IsErrOf result DeviceFault.BadByte
             ↔ (IsFalse (is_out_of_range text.now) × IsTrue (has_bad_byte text.now)) }
     {
         let ini = Ini::read(alloc, text)?;
         let reading = Reading::of(alloc, ini)?;
+        let is_three = is_three && has_new_types(&reading);
         let shared = Arc::new(alloc, reading)?;
         Ok(DataSheet {
             reading: shared,
+            is_three,
             text: None,
             common: None,
         })
@@ -82,9 +90,17 @@ impl DataSheet {
 
     /// What was read of the text.
     pub(crate) fn reading(&self) -> &Reading
-        ensures { result.now ≡ self.now }
+        ensures sections { result.now.sections ≡ self.now.sections }
+        ensures warnings { result.now.warnings ≡ self.now.warnings }
     {
         &self.reading
+    }
+
+    /// Whether it has a data type that version 3 alone models, and was read by that version: then these types count.
+    pub fn is_three(&self) -> bool
+        ensures { result ≡ self.now.is_three }
+    {
+        self.is_three
     }
 
     /// Where this device takes its memory.
@@ -130,7 +146,7 @@ impl DataSheet {
 
     /// The defaults that are kept for all nodes.
     pub(crate) fn kept_defaults(&self) -> Option<&Alike>
-        ensures { IfSome result (λ alike. AreAlike self.now.sections alike.now) }
+        ensures { IfSome result (λ alike. AreAlike self.now alike.now) }
     {
         match &self.common {
             Some(common) => Some(&common.alike),

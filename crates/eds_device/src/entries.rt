@@ -63,7 +63,7 @@ impl DataSheet {
     /// type, which must be an integer. `None` where there is no such entry.
     #[tactic(auto, unfolding(crate::specs::Entries::entry_at))]
     pub fn entry(&self, node: u8, index: u16, sub: u8) -> Option<Entry>
-        ensures { result ≡ entry_at self.now.sections node index sub }
+        ensures { result ≡ entry_at self.now node index sub }
     {
         let described = self.described(index, sub)?;
         Some(entry_of(&described, node))
@@ -78,7 +78,7 @@ impl DataSheet {
         index: u16,
         sub: u8,
     ) -> Result<Option<Octets>, AllocError>
-        ensures bytes { IfOk result (λ bytes. bytes ≡ default_at self.now.sections node index sub) }
+        ensures bytes { IfOk result (λ bytes. bytes ≡ default_at self.now node index sub) }
         ensures short { IfOk result (λ bytes. IfSome bytes (λ b. length b ≤ longest_value)) }
     {
         let Some(described) = self.described(index, sub) else {

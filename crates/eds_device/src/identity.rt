@@ -23,12 +23,12 @@ fn is_identity_type(kind: DataType) -> bool
 {
     matches!(
         kind,
-        DataType::Unsigned8 | DataType::Unsigned16 | DataType::Unsigned32
+        DataType::Unsigned8 | DataType::Unsigned16 | DataType::Unsigned24 | DataType::Unsigned32
     )
 }
 
-/// The number of a description's default at a node, where its type is UNSIGNED8, UNSIGNED16 or
-/// UNSIGNED32, else 0.
+/// The number of a description's default at a node, where its type is UNSIGNEDn of at most four
+/// bytes, else 0.
 fn identity_by(node: u8, described: &Described<'_>) -> u32
     ensures { result ≡ identity_by node (description_shown described.now) }
 {
@@ -45,9 +45,9 @@ fn identity_by(node: u8, described: &Described<'_>) -> u32
 }
 
 impl DataSheet {
-    /// The default of an UNSIGNED8, UNSIGNED16 or UNSIGNED32 at a node, else 0.
+    /// The default of an UNSIGNEDn of at most four bytes at a node, else 0.
     fn identity_number(&self, node: u8, index: u16, sub: u8) -> u32
-        ensures { result ≡ identity_number self.now.sections node index sub }
+        ensures { result ≡ identity_number self.now node index sub }
     {
         match self.described(index, sub) {
             Some(described) => identity_by(node, &described),
@@ -56,11 +56,11 @@ impl DataSheet {
     }
 
     /// Device type, vendor, product code, revision and serial number at a node: the defaults of 1000h
-    /// and of 1018h, subs 1 to 4. One that is missing, of no type UNSIGNED8, UNSIGNED16 or UNSIGNED32
-    /// or not readable is 0. Needs no memory.
+    /// and of 1018h, subs 1 to 4. One that is missing or not readable, or whose
+    /// type is no UNSIGNEDn of at most four bytes, is 0. Needs no memory.
     #[tactic(auto, unfolding(crate::specs::Identity::identity))]
     pub fn identity(&self, node: u8) -> [u32; 5]
-        ensures { result ≡ identity self.now.sections node }
+        ensures { result ≡ identity self.now node }
     {
         [
             self.identity_number(node, 0x1000, 0),

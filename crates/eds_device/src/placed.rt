@@ -30,7 +30,7 @@ impl DataSheet {
     #[tactic(auto, unfolding(crate::specs::Described::description_of, crate::specs::Described::kind_at))]
     pub fn placed(&self, near: usize, index: u16, sub: u8) -> Option<Placed<'_>>
         ensures origin { option_map (λ p. origin_shown p.origin) result ≡ origin_of self.now.sections index sub }
-        ensures kind { IfSome result (λ p. p.kind ≡ kind_at self.now.sections (index, sub)) }
+        ensures kind { IfSome result (λ p. p.kind ≡ kind_at self.now (index, sub)) }
     {
         let reading = self.reading();
         let (position, stand) = reading.stand_near(near, index, sub)?;
@@ -39,13 +39,13 @@ impl DataSheet {
             return Some(Placed {
                 position,
                 origin: Origin::Own(section),
-                kind: said.kind(section),
+                kind: said.kind(section).in_version(self.is_three),
             });
         };
         let kind = if sub == 0 {
             highest_sub(highest).kind
         } else {
-            said.kind(section)
+            said.kind(section).in_version(self.is_three)
         };
         Some(Placed {
             position,

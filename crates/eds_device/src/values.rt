@@ -21,7 +21,7 @@ impl DataSheet {
         ensures { OnOk result (shape.new
             ≡ record shape.old {
               entries = option_map_or (map.insert shape.old.entries (index, sub))
-                  (entry_at self.now.sections node index sub) shape.old.entries;
+                  (entry_at self.now node index sub) shape.old.entries;
             }) }
     {
         match self.entry(node, index, sub) {
@@ -40,7 +40,7 @@ impl DataSheet {
         sub: u8,
     ) -> Result<(), AllocError>
         ensures { OnOk result (dict.new ≡ option_map_or (map.insert dict.old (index, sub))
-            (default_at self.now.sections node index sub) dict.old) }
+            (default_at self.now node index sub) dict.old) }
     {
         match self.default(node, index, sub)? {
             Some(bytes) => dict.write(index, sub, bytes.as_slice()),
@@ -56,7 +56,7 @@ impl DataSheet {
         node: u8,
         places: &[(u16, u8)],
     ) -> Result<(), AllocError>
-        ensures { OnOk result (dict.new ≡ with_defaults self.now.sections node places.now dict.old) }
+        ensures { OnOk result (dict.new ≡ with_defaults self.now node places.now dict.old) }
     {
         for place in places {
             self.add_default(dict, node, place.0, place.1)?;
@@ -83,7 +83,7 @@ impl DataSheet {
     /// 4,096, and the logarithm of it.
     #[tactic(auto, unfolding(crate::specs::Entries::shape_of))]
     pub fn shape(&self, node: u8) -> Result<Shape, AllocError>
-        ensures { IfOk result (λ shape. shape ≡ shape_of self.now.sections node) }
+        ensures { IfOk result (λ shape. shape ≡ shape_of self.now node) }
     {
         let mut shape = Shape::new(self.allocator(), self.dummies());
         for place in self.pairs() {
@@ -105,8 +105,8 @@ impl DataSheet {
 
     /// All defaults over those that are the same at each node.
     fn defaults_over(&self, alike: &Alike, node: u8) -> Result<Dict, AllocError>
-        requires { AreAlike self.now.sections alike.now }
-        ensures { IfOk result (λ dict. dict ≡ defaults_of self.now.sections node) }
+        requires { AreAlike self.now alike.now }
+        ensures { IfOk result (λ dict. dict ≡ defaults_of self.now node) }
     {
         let mut dict = self.values_below(alike)?;
         self.add_defaults(&mut dict, node, &alike.others)?;
@@ -115,7 +115,7 @@ impl DataSheet {
 
     /// All defaults, each by itself.
     fn defaults_of_all(&self, node: u8) -> Result<Dict, AllocError>
-        ensures { IfOk result (λ dict. dict ≡ defaults_of self.now.sections node) }
+        ensures { IfOk result (λ dict. dict ≡ defaults_of self.now node) }
     {
         let mut dict = Dict::new(self.allocator());
         self.add_defaults(&mut dict, node, self.pairs())?;
@@ -127,7 +127,7 @@ impl DataSheet {
     /// same at each node, these are copied, and shared where there is at most one other for 128 entries: then it
     /// takes time and memory by the number of the others.
     pub fn defaults(&self, node: u8) -> Result<Dict, AllocError>
-        ensures { IfOk result (λ dict. dict ≡ defaults_of self.now.sections node) }
+        ensures { IfOk result (λ dict. dict ≡ defaults_of self.now node) }
     {
         match self.kept_defaults() {
             Some(alike) => self.defaults_over(alike, node),

@@ -15,8 +15,9 @@ use Rattle.kept_values.specs.Work.{Work}
 use Rattle.kept_values.proofs.Brought.{both, none, option_map_back}
 use Rattle.co_project.specs.declared.node.Node.{Node}
 use Rattle.co_project.specs.Project.{Content as Project}
-use Rattle.co_project.specs.Tables.{node_at, text_at}
-use Rattle.part_shelves.specs.Slots.{text_kept}
+use Rattle.co_project.specs.Tables.{node_at}
+use Rattle.part_shelves.specs.SheetText.{sheet_given}
+use Rattle.part_shelves.specs.Slots.{sheet_kept}
 use Rattle.kept_parts.specs.declared.kept_parts.KeptParts.{KeptParts}
 use Rattle.project_parts.specs.declared.part.Part.{Part}
 use Rattle.project_parts.specs.declared.part.Part.TheVariants as part
@@ -87,7 +88,7 @@ module _ (p : Project) where
       → kept_inputs k (part.Device node.eds) ≡ inputs_of p (part.Device node.eds))
       → HoldsDevices p k.devices
   holds_by k are n node there =
-      option_map_back OfDevice (λ x y e. cc) (text_kept k.devices node.eds) (text_at p.texts node.eds) (are n node there)
+      option_map_back OfDevice (λ x y e. cc) (sheet_kept k.devices node.eds) (sheet_given p node.eds) (are n node there)
 
   device_among : (n : ℕ) (node : Node) → node_at p.nodes n ≡ Some node
       → list_any (same_part (part.Device node.eds)) (of_nodes p) ≡ true

@@ -7,6 +7,7 @@ use Rattle.std.specs.Option.{option_map_or}
 use Rattle.std.specs.Result.{is_ok}
 use Rattle.std.proofs.lemmas.List.Elements.{All-cons, All-head, All-nil, All-tail, All-weaker}
 use Rattle.std.proofs.lemmas.Map.Lookups.{exact_bytes}
+use Rattle.project_edits.specs.Versions.{is_three}
 use Rattle.project_edits.specs.declared.edit.Edit.{Edit}
 use Rattle.kept_values.specs.Shelved.{is_flagged, is_fresh, kept_at, Shelved, Single}
 use Rattle.kept_values.specs.Stale.{without, AreBrought}
@@ -16,7 +17,8 @@ use Rattle.co_project.specs.declared.node.Node.{Node}
 use Rattle.co_project.specs.Project.{accept, Content as Project}
 use Rattle.co_project.specs.Tables.{text_at}
 use Rattle.co_scenario.specs.declared.timed_step.TimedStep.{TimedStep}
-use Rattle.part_shelves.specs.Slots.{fresh_at, text_kept, Slots}
+use Rattle.part_shelves.specs.SheetText.{sheet_given, sheet_text, SheetText}
+use Rattle.part_shelves.specs.Slots.{fresh_at, sheet_kept, Slots}
 use Rattle.part_shelves.specs.declared.device_slot.DeviceSlot.{DeviceSlot}
 use Rattle.project_parts.specs.Given.{inputs_of, same_part, Given, OfConcise, OfDcf, OfDevice, OfDiagnostics, OfNode, OfPlan}
 use Rattle.project_parts.specs.Given.{OfRoster, OfWindow, OfWrites}
@@ -37,8 +39,8 @@ use Rattle.kept_parts.specs.declared.kept_parts.KeptParts.{KeptParts}
 abbrev pub AreLeft : {X : Type 0} → List Bool → Shelved X → Shelved X → Type 0
 AreLeft flags old new = (q : ℕ) → kept_at new q ≡ (if is_flagged flags q then kept_at old q else None)
 
-abbrev slot_text : Option DeviceSlot → Option (List ℕ)
-slot_text o = option_map (λ (s : DeviceSlot). s.kept) o
+abbrev slot_sheet : Option DeviceSlot → Option SheetText
+slot_sheet o = option_map (λ (s : DeviceSlot). s.kept) o
 
 abbrev slot_fresh : Option DeviceSlot → Bool
 slot_fresh o = option_map_or (λ (s : DeviceSlot). s.fresh) o false
@@ -67,9 +69,9 @@ module _ (p : Project) where
         (λ x t. ap (contains_key p.texts) (sym (exact_bytes name x t)))
 
     device_left : (name : List ℕ) → kept_inputs new (part.Device name) ≡ without (is_gone p) (kept_inputs old) (part.Device name)
-    device_left name = ap (λ o. option_map OfDevice (slot_text o)) (slot_left name) ∙ by (contains_key p.texts name)
+    device_left name = ap (λ o. option_map OfDevice (slot_sheet o)) (slot_left name) ∙ by (contains_key p.texts name)
       where
-        by : (t : Bool) → option_map OfDevice (slot_text (cond t (get old.devices name) None))
+        by : (t : Bool) → option_map OfDevice (slot_sheet (cond t (get old.devices name) None))
             ≡ (if not t then None else kept_inputs old (part.Device name))
         by true = refl
         by false = refl
@@ -84,12 +86,12 @@ module _ (p : Project) where
 
     -- and none that is of now gets one
     device_unmarked : (name : List ℕ) → fresh_at old.devices name ≡ true
-        → text_kept old.devices name ≡ text_at p.texts name → fresh_at new.devices name ≡ true
+        → sheet_kept old.devices name ≡ sheet_given p name → fresh_at new.devices name ≡ true
     device_unmarked name unmarked same =
         ap slot_fresh (slot_left name) ∙ by (get old.devices name) (text_at p.texts name) unmarked same
       where
-        by : (o : Option DeviceSlot) (text : Option (List ℕ)) → slot_fresh o ≡ true → slot_text o ≡ text
-            → slot_fresh (cond (is_some text) o None) ≡ true
+        by : (o : Option DeviceSlot) (text : Option (List ℕ)) → slot_fresh o ≡ true
+            → slot_sheet o ≡ option_map (sheet_text (is_three p.version)) text → slot_fresh (cond (is_some text) o None) ≡ true
         by None text unmarked same = cc
         by (Some s) None unmarked same = cc
         by (Some s) (Some text) unmarked same = unmarked
@@ -139,7 +141,7 @@ module _ (p : Project) where
             one : (name : List ℕ) → is_unmarked old (part.Device name) ≡ true → is_unmarked new (part.Device name) ≡ true
             one name unmarked =
                 device_unmarked name unmarked
-                (option_map_back OfDevice (λ x y e. cc) (text_kept old.devices name) (text_at p.texts name)
+                (option_map_back OfDevice (λ x y e. cc) (sheet_kept old.devices name) (sheet_given p name)
                 (is.0 (part.Device name) unmarked))
 
             below : (es : List (ℕ × Node)) → HaveNoMark old (map of_node es) → HaveNoMark new (map of_node es)

@@ -11,6 +11,7 @@ use Rattle.std.proofs.lemmas.List.Elements.{All-cons, All-head, All-nil, All-tai
 use Rattle.std.proofs.lemmas.Map.Lookups.{exact_bytes}
 use Rattle.base.proofs.TableLemmas.{alike}
 use Rattle.project_messages.specs.Messages.{name_cmp}
+use Rattle.project_edits.specs.Versions.{is_three}
 use Rattle.co_project.specs.declared.node.Node.{Node}
 use Rattle.co_project.specs.Project.{Content as Project}
 use Rattle.co_project.specs.Tables.{text_at}
@@ -18,7 +19,8 @@ use Rattle.kept_values.specs.Work.{Work, Refreshes}
 use Rattle.kept_values.specs.Shelved.{is_fresh, kept_at, Shelved, Single}
 use Rattle.kept_values.specs.Stale.{AreBrought}
 use Rattle.kept_values.proofs.Brought.{one, option_map_back, refreshes_kind, refreshes_none, shelf_stands}
-use Rattle.part_shelves.specs.Slots.{fresh_at, fresh_slot, text_kept, Slots}
+use Rattle.part_shelves.specs.SheetText.{sheet_given, sheet_text, SheetText}
+use Rattle.part_shelves.specs.Slots.{fresh_at, fresh_slot, sheet_kept, Slots}
 use Rattle.kept_parts.specs.Kept.{is_unmarked, kept_inputs, AreOfNow, HaveNoMark, IsClosed, IsOf}
 use Rattle.co_scenario.specs.declared.timed_step.TimedStep.{TimedStep}
 use Rattle.network_image.specs.Image.{window_steps}
@@ -98,9 +100,9 @@ module _ (p : Project) where
   module _ (h : KeptParts) (is : IsOf p h) where
     -- what has no mark is built from the inputs of now
     pub device_now : (name : List ℕ) → fresh_at h.devices name ≡ true
-        → text_kept h.devices name ≡ text_at p.texts name
+        → sheet_kept h.devices name ≡ sheet_given p name
     device_now name unmarked =
-        option_map_back OfDevice (λ x y e. cc) (text_kept h.devices name) (text_at p.texts name)
+        option_map_back OfDevice (λ x y e. cc) (sheet_kept h.devices name) (sheet_given p name)
         (of_now h is (part.Device name) unmarked)
 
     pub plan_now : h.plan.fresh ≡ true → h.plan.kept ≡ Some (plan_from p)
@@ -122,41 +124,41 @@ module _ (p : Project) where
     -- ---- a device
 
     module _ (name : List ℕ) (new : Slots)
-        (s : StandsAt h.devices name new (option_map fresh_slot (text_at p.texts name))) where
+        (s : StandsAt h.devices name new (option_map fresh_slot (sheet_given p name))) where
       abbrev with_devices : KeptParts
       with_devices = record h { devices = new }
 
-      abbrev slot_text : Option DeviceSlot → Option (List ℕ)
-      slot_text o = option_map (λ (s : DeviceSlot). s.kept) o
+      abbrev slot_sheet : Option DeviceSlot → Option SheetText
+      slot_sheet o = option_map (λ (s : DeviceSlot). s.kept) o
 
       abbrev slot_fresh : Option DeviceSlot → Bool
       slot_fresh o = option_map_or (λ (s : DeviceSlot). s.fresh) o false
 
-      kept_fresh : (o : Option (List ℕ)) → slot_text (option_map fresh_slot o) ≡ o
+      kept_fresh : (o : Option SheetText) → slot_sheet (option_map fresh_slot o) ≡ o
       kept_fresh None = refl
-      kept_fresh (Some text) = refl
+      kept_fresh (Some given) = refl
 
-      text_stands : (q : List ℕ) → text_kept new q
-          ≡ (if eq_by_cmp name_cmp q name then text_at p.texts q else text_kept h.devices q)
-      text_stands q = ap slot_text (s q) ∙ by (eq_by_cmp name_cmp q name) refl
+      sheet_stands : (q : List ℕ) → sheet_kept new q
+          ≡ (if eq_by_cmp name_cmp q name then sheet_given p q else sheet_kept h.devices q)
+      sheet_stands q = ap slot_sheet (s q) ∙ by (eq_by_cmp name_cmp q name) refl
         where
           by : (t : Bool) → eq_by_cmp name_cmp q name ≡ t
-              → slot_text (cond t (option_map fresh_slot (text_at p.texts name)) (get h.devices q))
-              ≡ (if t then text_at p.texts q else text_kept h.devices q)
+              → slot_sheet (cond t (option_map fresh_slot (sheet_given p name)) (get h.devices q))
+              ≡ (if t then sheet_given p q else sheet_kept h.devices q)
           by true same =
-              kept_fresh (text_at p.texts name)
-              ∙ ap (text_at p.texts) (sym (alike nat_list_cmp_total exact_bytes q name same))
+              kept_fresh (sheet_given p name)
+              ∙ ap (sheet_given p) (sym (alike nat_list_cmp_total exact_bytes q name same))
           by false other = refl
 
-      chosen : (t : Bool) (x y : Option (List ℕ))
+      chosen : (t : Bool) (x y : Option SheetText)
           → option_map OfDevice (if t then x else y) ≡ (if t then option_map OfDevice x else option_map OfDevice y)
       chosen true x y = refl
       chosen false x y = refl
 
       device_stands : Stands (part.Device name) h with_devices
       device_stands (part.Device q) =
-          ap (option_map OfDevice) (text_stands q)
-          ∙ chosen (eq_by_cmp name_cmp q name) (text_at p.texts q) (text_kept h.devices q)
+          ap (option_map OfDevice) (sheet_stands q)
+          ∙ chosen (eq_by_cmp name_cmp q name) (sheet_given p q) (sheet_kept h.devices q)
       device_stands q = refl
 
       device_other : NoOther (part.Device name) h with_devices
@@ -167,25 +169,25 @@ module _ (p : Project) where
           by true same = inl same
           by false apart =
               inr (sym (ap slot_fresh (s q
-              ∙ ap (λ t. cond t (option_map fresh_slot (text_at p.texts name)) (get h.devices q)) apart)) ∙ unmarked)
+              ∙ ap (λ t. cond t (option_map fresh_slot (sheet_given p name)) (get h.devices q)) apart)) ∙ unmarked)
       device_other q unmarked = inr unmarked
 
-      kept_slot : (o : Option DeviceSlot) → slot_fresh o ≡ true → (text : Option (List ℕ)) → slot_text o ≡ text
-          → slot_fresh (option_map fresh_slot text) ≡ true
-      kept_slot None unmarked text same = cc
+      kept_slot : (o : Option DeviceSlot) → slot_fresh o ≡ true → (given : Option SheetText) → slot_sheet o ≡ given
+          → slot_fresh (option_map fresh_slot given) ≡ true
+      kept_slot None unmarked given same = cc
       kept_slot (Some s) unmarked None same = cc
-      kept_slot (Some s) unmarked (Some t) same = refl
+      kept_slot (Some s) unmarked (Some g) same = refl
 
       -- no device gets a mark
       pub device_keeps : (q : List ℕ) → fresh_at h.devices q ≡ true → fresh_at new q ≡ true
       device_keeps q unmarked = ap slot_fresh (s q) ∙ by (eq_by_cmp name_cmp q name) refl
         where
           by : (t : Bool) → eq_by_cmp name_cmp q name ≡ t
-              → slot_fresh (cond t (option_map fresh_slot (text_at p.texts name)) (get h.devices q)) ≡ true
+              → slot_fresh (cond t (option_map fresh_slot (sheet_given p name)) (get h.devices q)) ≡ true
           by true same =
               let one : q ≡ name = alike nat_list_cmp_total exact_bytes q name same in
               let here : fresh_at h.devices name ≡ true = sym (ap (fresh_at h.devices) one) ∙ unmarked in
-              kept_slot (get h.devices name) here (text_at p.texts name) (device_now name here)
+              kept_slot (get h.devices name) here (sheet_given p name) (device_now name here)
           by false apart = unmarked
 
       pub device_stays : (q : Part) → is_unmarked h q ≡ true → is_unmarked with_devices q ≡ true
@@ -199,7 +201,8 @@ module _ (p : Project) where
       device_stays (part.Window i) unmarked = unmarked
       device_stays part.Diagnostics unmarked = unmarked
 
-      fresh_there : (o : Option (List ℕ)) → slot_fresh (option_map fresh_slot o) ≡ is_some o
+      fresh_there : (o : Option (List ℕ))
+          → slot_fresh (option_map fresh_slot (option_map (sheet_text (is_three p.version)) o)) ≡ is_some o
       fresh_there None = refl
       fresh_there (Some text) = refl
 
@@ -207,7 +210,7 @@ module _ (p : Project) where
       pub device_unmarked : fresh_at new name ≡ is_some (text_at p.texts name)
       device_unmarked =
           ap slot_fresh (s name
-          ∙ ap (λ t. cond t (option_map fresh_slot (text_at p.texts name)) (get h.devices name))
+          ∙ ap (λ t. cond t (option_map fresh_slot (sheet_given p name)) (get h.devices name))
           (ap is_eq (tied_itself nat_list_cmp_total name)))
           ∙ fresh_there (text_at p.texts name)
 
@@ -219,18 +222,18 @@ module _ (p : Project) where
       pub device_is_of : IsOf p with_devices
       device_is_of = is_of_after (part.Device name) h with_devices is device_stands device_other device_closed
 
-      pub device_brought : (m n : Work) → Refreshes (text_kept h.devices name) (text_at p.texts name) m n
+      pub device_brought : (m n : Work) → Refreshes (sheet_kept h.devices name) (sheet_given p name) m n
           → AreBrought same_part (inputs_of p) (part.Device name ∷ []) (kept_inputs h) (kept_inputs with_devices) m n
       device_brought m n r =
           one same_part (inputs_of p) (part.Device name) (kept_inputs h) (kept_inputs with_devices) m n device_stands
-          (refreshes_kind OfDevice (λ x y e. cc) (text_kept h.devices name) (text_at p.texts name) m n r)
+          (refreshes_kind OfDevice (λ x y e. cc) (sheet_kept h.devices name) (sheet_given p name) m n r)
 
-      pub device_value : text_kept new name ≡ text_at p.texts name
+      pub device_value : sheet_kept new name ≡ sheet_given p name
       device_value =
-          text_stands name ∙ by (eq_by_cmp name_cmp name name) (ap is_eq (tied_itself nat_list_cmp_total name))
+          sheet_stands name ∙ by (eq_by_cmp name_cmp name name) (ap is_eq (tied_itself nat_list_cmp_total name))
         where
           by : (t : Bool) → t ≡ true
-              → (if t then text_at p.texts name else text_kept h.devices name) ≡ text_at p.texts name
+              → (if t then sheet_given p name else sheet_kept h.devices name) ≡ sheet_given p name
           by true e = refl
           by false e = cc
 

@@ -13,7 +13,8 @@ use Rattle.project_edits.specs.declared.edit.Edit.TheVariants as edit
 use Rattle.project_messages.specs.Messages.{name_cmp}
 use Rattle.co_project.specs.declared.node.Node.{Node}
 use Rattle.co_project.specs.Project.{accept, Content as Project}
-use Rattle.part_shelves.specs.Slots.{fresh_at, text_kept, with_fresh, Slots}
+use Rattle.part_shelves.specs.SheetText.{SheetText}
+use Rattle.part_shelves.specs.Slots.{fresh_at, marked, sheet_kept, with_fresh, Slots}
 use Rattle.kept_parts.specs.Kept.{is_unmarked, kept_inputs, HaveNoMark, IsOf}
 use Rattle.kept_parts.specs.Marks.{Marks}
 use Rattle.kept_values.specs.At.{at}
@@ -23,7 +24,7 @@ use Rattle.project_parts.specs.declared.device_at.DeviceAt.{DeviceAt}
 use Rattle.project_parts.specs.Given.{OfDevice, OfNode, OfRoster, OfWindow}
 use Rattle.project_parts.specs.declared.roster_from.RosterFrom.{RosterFrom}
 use Rattle.project_parts.specs.Reached.{of_node, of_nodes}
-use Rattle.project_parts.specs.Touched.{is_of_network, is_of_text, is_planned, is_touched}
+use Rattle.project_parts.specs.Touched.{is_of_network, is_of_text, is_planned, is_touched, reads_version}
 use Rattle.part_shelves.specs.declared.device_slot.DeviceSlot.{DeviceSlot}
 use Rattle.project_parts.specs.declared.part.Part.{Part}
 use Rattle.project_parts.specs.declared.part.Part.TheVariants as part
@@ -33,37 +34,37 @@ use Rattle.project_parts.proofs.FileLemmas.{nodes_left}
 use Rattle.project_parts.proofs.FrameLemmas.{frame}
 use Rattle.kept_parts.proofs.GoneLemmas.{fresh_known, held_known}
 
--- ---- the mark of a text
+-- ---- marks of devices
+
+abbrev slot_sheet : Option DeviceSlot → Option SheetText
+slot_sheet o = option_map (λ (s : DeviceSlot). s.kept) o
+
+abbrev slot_fresh : Option DeviceSlot → Bool
+slot_fresh o = option_map_or (λ (s : DeviceSlot). s.fresh) o false
 
 module _ (slots : Slots) (name : List ℕ) where
-  abbrev marked : Slots
-  marked = with_fresh slots name false
+  abbrev one_marked : Slots
+  one_marked = with_fresh slots name false
 
   abbrev with_mark : Option DeviceSlot → Slots
   with_mark o = option_map_or (λ (s : DeviceSlot). insert slots name (record s { fresh = false })) o slots
 
-  abbrev slot_text : Option DeviceSlot → Option (List ℕ)
-  slot_text o = option_map (λ (s : DeviceSlot). s.kept) o
-
-  abbrev slot_fresh : Option DeviceSlot → Bool
-  slot_fresh o = option_map_or (λ (s : DeviceSlot). s.fresh) o false
-
-  pub marked_kept : (q : List ℕ) → text_kept marked q ≡ text_kept slots q
+  pub marked_kept : (q : List ℕ) → sheet_kept one_marked q ≡ sheet_kept slots q
   marked_kept q = by (get slots name) refl
     where
       at : (s : DeviceSlot) → get slots name ≡ Some s → (t : Bool) → eq_by_cmp name_cmp q name ≡ t
-          → slot_text (cond t (Some (record s { fresh = false })) (get slots q)) ≡ text_kept slots q
+          → slot_sheet (cond t (Some (record s { fresh = false })) (get slots q)) ≡ sheet_kept slots q
       at s there true same =
-          ap slot_text (sym there ∙ sym (ap (get slots) (alike nat_list_cmp_total exact_bytes q name same)))
+          ap slot_sheet (sym there ∙ sym (ap (get slots) (alike nat_list_cmp_total exact_bytes q name same)))
       at s there false apart = refl
 
-      by : (o : Option DeviceSlot) → get slots name ≡ o → text_kept (with_mark o) q ≡ text_kept slots q
+      by : (o : Option DeviceSlot) → get slots name ≡ o → sheet_kept (with_mark o) q ≡ sheet_kept slots q
       by None none = refl
       by (Some s) there =
-          ap slot_text (get-insert nat_list_cmp_total slots name (record s { fresh = false }) q)
+          ap slot_sheet (get-insert nat_list_cmp_total slots name (record s { fresh = false }) q)
           ∙ at s there (eq_by_cmp name_cmp q name) refl
 
-  fresh_at_mark : (q : List ℕ) → fresh_at marked q ≡ (not (eq_by_cmp name_cmp q name) && fresh_at slots q)
+  fresh_at_mark : (q : List ℕ) → fresh_at one_marked q ≡ (not (eq_by_cmp name_cmp q name) && fresh_at slots q)
   fresh_at_mark q = by (get slots name) refl
     where
       none_at : get slots name ≡ None → (t : Bool) → eq_by_cmp name_cmp q name ≡ t
@@ -201,6 +202,74 @@ network_marks h id middle roster nodes windows m is_roster same_nodes no_node sa
     others (part.Window i) other u = cc
     others part.Diagnostics other u = m.others part.Diagnostics refl u
 
+-- each device
+module _ (old new : Slots) (each : (q : List ℕ) → get new q ≡ option_map marked (get old q)) where
+  all_kept : (q : List ℕ) → sheet_kept new q ≡ sheet_kept old q
+  all_kept q = ap slot_sheet (each q) ∙ by (get old q)
+    where
+      by : (o : Option DeviceSlot) → slot_sheet (option_map marked o) ≡ slot_sheet o
+      by None = refl
+      by (Some s) = refl
+
+  none_fresh : (q : List ℕ) → fresh_at new q ≡ false
+  none_fresh q = ap slot_fresh (each q) ∙ by (get old q)
+    where
+      by : (o : Option DeviceSlot) → slot_fresh (option_map marked o) ≡ false
+      by None = refl
+      by (Some s) = refl
+
+-- the devices and all that is made of them, and the roster
+pub version_marks : (h : KeptParts) (devices : Slots) (middle : KeptParts) (roster : Single RosterFrom)
+    (nodes : Shelved DeviceAt) (windows : Shelved (List TimedStep))
+    → ((q : List ℕ) → get devices q ≡ option_map marked (get h.devices q))
+    → Marks is_planned (record h { devices = devices }) middle → roster ≡ record middle.roster { fresh = false }
+    → nodes.kept ≡ middle.nodes.kept → ((q : ℕ) → is_fresh nodes q ≡ false)
+    → windows.kept ≡ middle.windows.kept → ((q : ℕ) → is_fresh windows q ≡ false)
+    → Marks reads_version h (record middle { roster = roster; nodes = nodes; windows = windows })
+version_marks h devices middle roster nodes windows each m is_roster same_nodes no_node same_windows no_window =
+    record { kept = same; unmarked = less; others = others }
+  where
+    after : KeptParts
+    after = record middle { roster = roster; nodes = nodes; windows = windows }
+
+    same : (q : Part) → kept_inputs after q ≡ kept_inputs h q
+    same (part.Device e) = m.kept (part.Device e) ∙ ap (option_map OfDevice) (all_kept h.devices devices each e)
+    same part.Plan = m.kept part.Plan
+    same (part.Writes n) = m.kept (part.Writes n)
+    same (part.Concise n) = m.kept (part.Concise n)
+    same (part.Dcf n) = m.kept (part.Dcf n)
+    same part.Roster = ap (λ (s : Single RosterFrom). option_map OfRoster s.kept) is_roster ∙ m.kept part.Roster
+    same (part.Node n) =
+        ap (λ (es : List (ℕ × DeviceAt)). option_map OfNode (at es n)) same_nodes ∙ m.kept (part.Node n)
+    same (part.Window i) =
+        ap (λ (es : List (ℕ × List TimedStep)). option_map OfWindow (at es i)) same_windows ∙ m.kept (part.Window i)
+    same part.Diagnostics = m.kept part.Diagnostics
+
+    less : (q : Part) → is_unmarked after q ≡ true → (is_unmarked h q ≡ true) × (reads_version q ≡ false)
+    less (part.Device e) u =
+        let was : fresh_at devices e ≡ true = (m.unmarked (part.Device e) u).0 in
+        let none : fresh_at devices e ≡ false = none_fresh h.devices devices each e in
+        cc
+    less part.Plan u = m.unmarked part.Plan u
+    less (part.Writes n) u = m.unmarked (part.Writes n) u
+    less (part.Concise n) u = m.unmarked (part.Concise n) u
+    less (part.Dcf n) u = m.unmarked (part.Dcf n) u
+    less part.Roster u = let none = ap (λ (s : Single RosterFrom). s.fresh) is_roster in cc
+    less (part.Node n) u = let none : is_fresh nodes n ≡ false = no_node n in cc
+    less (part.Window i) u = let none : is_fresh windows i ≡ false = no_window i in cc
+    less part.Diagnostics u = m.unmarked part.Diagnostics u
+
+    others : (q : Part) → reads_version q ≡ false → is_unmarked h q ≡ true → is_unmarked after q ≡ true
+    others part.Diagnostics other u = m.others part.Diagnostics refl u
+    others (part.Device e) other u = cc
+    others part.Plan other u = cc
+    others (part.Writes n) other u = cc
+    others (part.Concise n) other u = cc
+    others (part.Dcf n) other u = cc
+    others part.Roster other u = cc
+    others (part.Node n) other u = cc
+    others (part.Window i) other u = cc
+
 -- marks, and then others
 pub both_marks : (a b : Part → Bool) (old middle new : KeptParts) → Marks a old middle → Marks b middle new
     → Marks (λ q. a q || b q) old new
@@ -229,7 +298,7 @@ known_marks asked old new known m = record {
 -- where the plan isn't touched, no device is
 pub plan_below : (p : Project) (e : Edit) (name : List ℕ) → is_touched p e part.Plan ≡ false
     → is_touched p e (part.Device name) ≡ false
-plan_below p (edit.Version version) name h = refl
+plan_below p (edit.Version version) name h = cc
 plan_below p (edit.Bitrate rate) name h = refl
 plan_below p (edit.Horizon time) name h = refl
 plan_below p (edit.Manager m) name h = refl

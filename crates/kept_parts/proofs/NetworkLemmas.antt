@@ -23,7 +23,7 @@ use Rattle.project_parts.specs.declared.part.Part.TheVariants as part
 use Rattle.project_parts.proofs.PlanLemmas.{writes_are_of}
 use Rattle.network_image.specs.Held.{held_of, AllHeld, PartsOfNode}
 use Rattle.network_image.specs.Image.{window_steps}
-use Rattle.project_plan.specs.Network.{member_at, with_sections, writes_of, Member}
+use Rattle.project_plan.specs.Network.{member_at, with_sheet, writes_of, Member}
 use Rattle.kept_parts.specs.Kept.{with_parts, AreHeld, IsCurrent}
 use Rattle.project_parts.specs.Given.{writes_from, OfWrites}
 use Rattle.project_parts.specs.Given.{device_from, roster_from, same_part, OfNode, OfRoster, OfWindow}
@@ -99,9 +99,9 @@ module _ (p : Project) (k : KeptParts) where
             ap (λ (v : DeviceParts).
             Some (record { defaults = v.defaults; shape = v.shape; expect = v.expect; writes = w })) (same_some own)
             ∙ ap (λ (v : List Write). Some (record {
-              defaults = defaults_of m.sections n;
-              shape = shape_of m.sections n;
-              expect = record { numbers = identity m.sections n };
+              defaults = defaults_of m.sheet n;
+              shape = shape_of m.sheet n;
+              expect = record { numbers = identity m.sheet n };
               writes = v;
             })) (same_some written)
 
@@ -189,7 +189,7 @@ module _ (p : Project) where
       by : (t : Bool) → is_done q (entries p.nodes) ≡ t → cond t (held_at q) None ≡ held_at q
       by true h = refl
       by false h =
-          sym (ap (λ o. option_map (held_of p q) (option_and_then (with_sections p) o))
+          sym (ap (λ o. option_map (held_of p q) (option_and_then (with_sheet p) o))
           (get-entries p.nodes q ∙ not_found q (entries p.nodes) h))
 
   -- ---- what a simulation reads

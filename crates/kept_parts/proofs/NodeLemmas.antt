@@ -9,7 +9,7 @@ use Rattle.std.proofs.lemmas.Map.Lookups.{exact_unsigned}
 use Rattle.std.specs.List.{cons_option, All}
 use Rattle.std.specs.Option.{option_to_list}
 use Rattle.std.specs.FinMap.{entries}
-use Rattle.ini_text.specs.Content.{Content as DataSheet}
+use Rattle.eds_device.specs.Sheets.{Sheet}
 use Rattle.base.proofs.EachLemmas.{all_entries}
 use Rattle.co_project.specs.declared.node.Node.{Node}
 use Rattle.co_project.specs.Project.{Content as Project}
@@ -25,7 +25,7 @@ use Rattle.project_parts.specs.declared.part.Part.{Part}
 use Rattle.kept_parts.specs.declared.kept_parts.KeptParts.{KeptParts}
 
 -- the nodes before the rest are done
-pub record SoFar (p : Project) (rest : List (ℕ × Node)) (a b : KeptParts) (k m : Work) (devices : List (ℕ × DataSheet))
+pub record SoFar (p : Project) (rest : List (ℕ × Node)) (a b : KeptParts) (k m : Work) (devices : List (ℕ × Sheet))
     : Type 0 where
   pub done : List (ℕ × Node)
   pub all : done ++ rest ≡ entries p.nodes
@@ -34,7 +34,7 @@ pub record SoFar (p : Project) (rest : List (ℕ × Node)) (a b : KeptParts) (k 
   pub is : IsOf p b
   pub unmarked : HaveNoMark b (map of_node done)
 
-pub so_far_start : (p : Project) (rest : List (ℕ × Node)) (a : KeptParts) (k : Work) (devices : List (ℕ × DataSheet))
+pub so_far_start : (p : Project) (rest : List (ℕ × Node)) (a : KeptParts) (k : Work) (devices : List (ℕ × Sheet))
     → rest ≡ entries p.nodes → devices ≡ [] → IsOf p a → SoFar p rest a a k k devices
 so_far_start p rest a k devices e f is =
     record {
@@ -54,7 +54,7 @@ filter_map-one : {X Y : Type 0} (h : X → Option Y) (x : X) → filter_map h (x
 filter_map-one h x = one_option (h x)
 
 pub so_far_more : (p : Project) (e : ℕ × Node) (rest : List (ℕ × Node)) (a b c : KeptParts) (k m n : Work)
-    (devices more : List (ℕ × DataSheet)) → SoFar p (e ∷ rest) a b k m devices
+    (devices more : List (ℕ × Sheet)) → SoFar p (e ∷ rest) a b k m devices
     → AreBrought same_part (inputs_of p) (of_node e ∷ []) (kept_inputs b) (kept_inputs c) m n → IsOf p c
     → more ≡ devices ++ option_to_list (node_with_device p e) → is_unmarked c (of_node e) ≡ true
     → ((q : Part) → is_unmarked b q ≡ true → is_unmarked c q ≡ true) → SoFar p rest a c k n more
@@ -83,7 +83,7 @@ all_middle P (b ∷ before) x after all = all_middle P before x after (All-tail 
 
 -- the text of the EDS of the next node is there
 pub eds_there : (p : Project) (e : ℕ × Node) (rest : List (ℕ × Node)) (a b : KeptParts) (k m : Work)
-    (devices : List (ℕ × DataSheet)) → SoFar p (e ∷ rest) a b k m devices → IsSound p
+    (devices : List (ℕ × Sheet)) → SoFar p (e ∷ rest) a b k m devices → IsSound p
     → is_some (text_at p.texts e.1.eds) ≡ true
 unfolding IsNodeOf
 eds_there p e rest a b k m devices s sound =
@@ -91,7 +91,7 @@ eds_there p e rest a b k m devices s sound =
     (subst (All (λ (e : ℕ × Node). IsNodeOf p e.0 e.1)) (sym s.all)
     (all_entries nat_cmp_total exact_unsigned (IsNodeOf p) p.nodes sound.nodes))).5
 
-module _ (p : Project) (a b : KeptParts) (k m : Work) (devices : List (ℕ × DataSheet)) (s : SoFar p [] a b k m devices)
+module _ (p : Project) (a b : KeptParts) (k m : Work) (devices : List (ℕ × Sheet)) (s : SoFar p [] a b k m devices)
   where
     whole : s.done ≡ entries p.nodes
     whole = sym (append-nil s.done) ∙ s.all
@@ -110,16 +110,16 @@ module _ (p : Project) (a b : KeptParts) (k m : Work) (devices : List (ℕ × Da
 -- ---- devices that are gathered, where none has a mark
 
 -- those of the nodes before the rest
-pub record Gathered (p : Project) (rest : List (ℕ × Node)) (devices : List (ℕ × DataSheet)) : Type 0 where
+pub record Gathered (p : Project) (rest : List (ℕ × Node)) (devices : List (ℕ × Sheet)) : Type 0 where
   pub done : List (ℕ × Node)
   pub all : done ++ rest ≡ entries p.nodes
   pub value : devices ≡ filter_map (node_with_device p) done
 
-pub gathered_none : (p : Project) (rest : List (ℕ × Node)) (devices : List (ℕ × DataSheet)) → rest ≡ entries p.nodes
+pub gathered_none : (p : Project) (rest : List (ℕ × Node)) (devices : List (ℕ × Sheet)) → rest ≡ entries p.nodes
     → devices ≡ [] → Gathered p rest devices
 gathered_none p rest devices e f = record { done = []; all = e; value = f }
 
-pub gathered_more : (p : Project) (e : ℕ × Node) (rest : List (ℕ × Node)) (devices more : List (ℕ × DataSheet))
+pub gathered_more : (p : Project) (e : ℕ × Node) (rest : List (ℕ × Node)) (devices more : List (ℕ × Sheet))
     → Gathered p (e ∷ rest) devices → more ≡ devices ++ option_to_list (node_with_device p e) → Gathered p rest more
 gathered_more p e rest devices more s v =
     record {
@@ -132,12 +132,12 @@ gathered_more p e rest devices more s v =
     }
 
 -- the next has no mark
-pub gathered_next : (p : Project) (e : ℕ × Node) (rest : List (ℕ × Node)) (devices : List (ℕ × DataSheet)) (k : KeptParts)
+pub gathered_next : (p : Project) (e : ℕ × Node) (rest : List (ℕ × Node)) (devices : List (ℕ × Sheet)) (k : KeptParts)
     → Gathered p (e ∷ rest) devices → HaveNoMark k (map of_node (entries p.nodes)) → is_unmarked k (of_node e) ≡ true
 gathered_next p e rest devices k s unmarked =
     all_middle (λ q. is_unmarked k q ≡ true) (map of_node s.done) (of_node e) (map of_node rest)
     (subst (All (λ q. is_unmarked k q ≡ true)) (ap (map of_node) (sym s.all) ∙ map-append of_node s.done (e ∷ rest)) unmarked)
 
-pub gathered_all : (p : Project) (devices : List (ℕ × DataSheet)) → Gathered p [] devices
+pub gathered_all : (p : Project) (devices : List (ℕ × Sheet)) → Gathered p [] devices
     → devices ≡ filter_map (node_with_device p) (entries p.nodes)
 gathered_all p devices s = s.value ∙ ap (filter_map (node_with_device p)) (sym (append-nil s.done) ∙ s.all)

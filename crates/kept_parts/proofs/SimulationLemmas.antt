@@ -3,7 +3,7 @@ use Rattle.std.proofs.Common.{◌≡◌, ◌∙◌, ℕ, Bool, true, false, ◌=
 use Rattle.std.proofs.Common.{Option, Some, None, IfSome, IfNone, option_map, option_and_then, refl, sym, ap}
 use Rattle.std.specs.Option.{option_or}
 use Rattle.std.proofs.lemmas.Bool.{eqb-true}
-use Rattle.ini_text.specs.Content.{Content as DataSheet}
+use Rattle.eds_device.specs.Sheets.{Sheet}
 use Rattle.co_project.specs.declared.node.Node.{Node}
 use Rattle.co_project.specs.Project.{Content as Project}
 use Rattle.co_project.specs.Tables.{node_at}
@@ -23,7 +23,7 @@ offered_is None from is = is
 offered_is (Some d) from is = is
 
 module _ (p : Project) (n : ℕ) where
-  abbrev with_number : DataSheet → DeviceAt
+  abbrev with_number : Sheet → DeviceAt
   with_number d = record { device = d; node = n }
 
   numbered : (o : Option Node) → option_map with_number (option_and_then (λ node. device_at p node.eds) o)
@@ -32,12 +32,12 @@ module _ (p : Project) (n : ℕ) where
   numbered (Some node) = refl
 
   -- the device of a node, given its number
-  pub device_value : (device : Option DataSheet) (result : Option DeviceAt) → result ≡ option_map with_number device
+  pub device_value : (device : Option Sheet) (result : Option DeviceAt) → result ≡ option_map with_number device
       → device ≡ option_and_then (λ node. device_at p node.eds) (node_at p.nodes n) → result ≡ device_from p n
   device_value device result is from = is ∙ ap (option_map with_number) from ∙ numbered (node_at p.nodes n)
 
   -- and that of now, where it is found
-  pub common_value : (node : Node) (name : List ℕ) (found : Option DataSheet) (now : Option DeviceAt)
+  pub common_value : (node : Node) (name : List ℕ) (found : Option Sheet) (now : Option DeviceAt)
       → Some node ≡ node_at p.nodes n → name ≡ node.eds → IfSome found (λ d. device_at p name ≡ Some d)
       → now ≡ device_from p n → option_or (option_map with_number found) now ≡ device_from p n
   common_value node name None now there named is from = from

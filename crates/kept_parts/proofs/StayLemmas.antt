@@ -8,8 +8,8 @@ use Rattle.kept_values.specs.Work.{Work}
 use Rattle.kept_values.proofs.Brought.{both, none, refreshes_none}
 use Rattle.co_project.specs.declared.node.Node.{Node}
 use Rattle.co_project.specs.Project.{Content as Project}
-use Rattle.co_project.specs.Tables.{text_at}
-use Rattle.part_shelves.specs.Slots.{fresh_at, text_kept}
+use Rattle.part_shelves.specs.SheetText.{sheet_given}
+use Rattle.part_shelves.specs.Slots.{fresh_at, sheet_kept}
 use Rattle.part_shelves.proofs.SlotLemmas.{fresh_stands}
 use Rattle.kept_parts.specs.Kept.{is_unmarked, kept_inputs, HaveNoMark, IsOf}
 use Rattle.project_parts.specs.Given.{inputs_of, plan_from, same_part}
@@ -28,8 +28,8 @@ module _ (p : Project) (h : KeptParts) (is : IsOf p h) (m : Work) where
   one_stays : (name : List ℕ) → fresh_at h.devices name ≡ true → Stay (part.Device name ∷ [])
   one_stays name u =
       let now = device_now p h is name u in
-      device_brought p h is name h.devices (fresh_stands h.devices name (text_at p.texts name) u now) m m
-      (refreshes_none (text_kept h.devices name) (text_at p.texts name) m now)
+      device_brought p h is name h.devices (fresh_stands h.devices name (sheet_given p name) u now) m m
+      (refreshes_none (sheet_kept h.devices name) (sheet_given p name) m now)
 
   all_stay : (es : List (ℕ × Node)) → HaveNoMark h (map of_node es) → Stay (map of_node es)
   all_stay [] all = none same_part (inputs_of p) (kept_inputs h) m

@@ -3,7 +3,7 @@ use Rattle.std.proofs.Common.{◌≡◌, ℕ, List, [], ◌∷◌, Option, Some,
 use Rattle.std.proofs.Common.{IfSome, Bool, true, false, ◌+◌, ◌-◌, ◌^◌, ◌==◌, min, if◌then◌else◌, option_and_then}
 use Rattle.std.proofs.lemmas.Bool.{eqb-true}
 use Rattle.std.specs.Option.{option_map_or}
-use Rattle.ini_text.specs.Content.{Content as DataSheet}
+use Rattle.eds_device.specs.Sheets.{Sheet}
 use Rattle.project_edits.specs.Versions.{is_three}
 use Rattle.project_messages.specs.Messages.{Named}
 use Rattle.co_project.specs.declared.node.Node.{Node}
@@ -97,7 +97,7 @@ with_devices k devices = record k { devices = devices }
 -- ---- the template of a node's device
 
 -- what is of the device of its EDS is of its own
-pub own_template : (p : Project) (id : ℕ) (node : Node) (eds : List ℕ) (found : Option DataSheet)
+pub own_template : (p : Project) (id : ℕ) (node : Node) (eds : List ℕ) (found : Option Sheet)
     → Some node ≡ node_at p.nodes id → eds ≡ node.eds → IfSome found (λ t. device_at p eds ≡ Some t)
     → IfSome found (λ t. option_and_then (λ n. device_at p n.eds) (node_at p.nodes id) ≡ Some t)
 own_template p id node eds None there same h = tt
@@ -105,7 +105,7 @@ own_template p id node eds (Some t) there same h =
     ap (option_and_then (λ (n : Node). device_at p n.eds)) (sym there) ∙ ap (device_at p) (sym same) ∙ h
 
 -- what a node's writes and its DCF are made from, by its device
-abbrev writes_by : Project → ℕ → Node → DataSheet → WritesFrom
+abbrev writes_by : Project → ℕ → Node → Sheet → WritesFrom
 writes_by p id node device = record {
   is_three = is_three p.version;
   plan = plan_made (plan_from p);
@@ -124,13 +124,13 @@ dcf_by p id node w = record {
 }
 
 -- and so of the one that the DCF is made from
-pub of_own_device : (p : Project) (id : ℕ) (found : Option DataSheet) (t : DataSheet) (d : DcfFrom)
+pub of_own_device : (p : Project) (id : ℕ) (found : Option Sheet) (t : Sheet) (d : DcfFrom)
     → IfSome found (λ t. option_and_then (λ n. device_at p n.eds) (node_at p.nodes id) ≡ Some t)
     → found ≡ Some t → dcf_from p id ≡ Some d → t ≡ d.device
 of_own_device p id None t d h is e = absurd (cc)
 of_own_device p id (Some x) t d h is e = let same : x ≡ t = cc in sym same ∙ by (node_at p.nodes id) h e
   where
-    on : (node : Node) (v : Option DataSheet) → v ≡ Some x
+    on : (node : Node) (v : Option Sheet) → v ≡ Some x
         → option_map (dcf_by p id node) (option_map (writes_by p id node) v) ≡ Some d → x ≡ d.device
     on node None h e = absurd (cc)
     on node (Some y) h e =

@@ -4,7 +4,7 @@ use Rattle.std.specs.FinMap.{insert}
 use Rattle.std.specs.List.{list_any}
 use Rattle.kept_values.specs.Shelved.{is_fresh, kept_at}
 use Rattle.co_project.specs.Project.{Content as Project}
-use Rattle.part_shelves.specs.Slots.{fresh_at, text_kept}
+use Rattle.part_shelves.specs.Slots.{fresh_at, sheet_kept}
 use Rattle.network_image.specs.Held.{AllHeld, PartsOfNode}
 use Rattle.project_parts.specs.Given.{inputs_of, same_part, Given, OfConcise, OfDcf, OfDevice, OfDiagnostics, OfNode}
 use Rattle.project_parts.specs.Given.{OfPlan, OfRoster, OfWindow, OfWrites}
@@ -15,7 +15,7 @@ use Rattle.kept_parts.specs.declared.kept_parts.KeptParts.{KeptParts}
 
 -- what a part that is kept was made from
 abbrev pub kept_inputs : KeptParts → Part → Option Given
-kept_inputs k (part.Device name) = option_map OfDevice (text_kept k.devices name)
+kept_inputs k (part.Device name) = option_map OfDevice (sheet_kept k.devices name)
 kept_inputs k part.Plan = option_map OfPlan k.plan.kept
 kept_inputs k (part.Writes n) = option_map OfWrites (kept_at k.writes n)
 kept_inputs k (part.Concise n) = option_map OfConcise (kept_at k.concise n)

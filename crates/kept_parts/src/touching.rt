@@ -3,7 +3,7 @@ ghost use Rattle.std.specs.Prelude.{◌≡◌, ◌||◌, Ok};
 ghost use Rattle.co_project.specs.Project.{accept, Content};
 ghost use Rattle.project_parts.specs.Touch.{touch_value};
 ghost use Rattle.project_parts.specs.Touched.{is_of_network, is_of_node, is_of_text, is_planned, is_roster, is_window};
-ghost use Rattle.project_parts.specs.Touched.{goes_into, is_window_at, is_window_of, is_wrong, says_rate, is_touched};
+ghost use Rattle.project_parts.specs.Touched.{goes_into, is_touched, is_window_at, is_window_of, is_wrong, reads_version, says_rate};
 ghost use Rattle.kept_parts.specs.Kept.{kept_inputs, IsOf};
 ghost use Rattle.kept_parts.specs.Left.{IsSwept};
 ghost use Rattle.kept_parts.specs.Marks.{Marks};
@@ -51,12 +51,15 @@ impl KeptParts {
         self.dcf.mark_all();
     }
 
-    /// Marks the roster, the plan and what is made from it.
+    /// Marks the devices and all that is made of them, and the roster.
     fn touch_version(&mut self)
-        ensures { Marks (λ q. is_roster q || is_planned q) self.old self.new }
+        ensures { Marks reads_version self.old self.new }
     {
+        self.devices.mark_all();
         self.touch_plan();
         self.roster.mark();
+        self.nodes.mark_all();
+        self.windows.mark_all();
     }
 
     /// Marks what a node goes into.
@@ -128,9 +131,9 @@ impl KeptParts {
         }
     }
 
-    /// Marks what an edit of a project may leave with other inputs. Takes no memory, and constant time but
-    /// for the logarithms of the numbers of EDS and of events. A mark too many does no harm: so it may come
-    /// before the edit is taken or refused.
+    /// Marks what an edit of a project may leave with other inputs. Takes no memory, and constant time but for the
+    /// logarithms of the numbers of EDS and of events; an edit of the version takes time by the number of EDS. A mark
+    /// too many does no harm: so it may come before the edit is taken or refused.
     pub fn touch(&mut self, edit: &Edit, project: &Project)
         ensures held { (q : Part) → kept_inputs self.new q ≡ kept_inputs self.old q }
 

@@ -50,10 +50,10 @@ unfolding shape_of_node defaults_of_node
 defaults_hold p node = by (member_at p node)
   where
     by : (o : Option Member)
-        → HoldEach (shape_in (ShapeIs (option_map (λ (m : Member). shape_of m.sections node) o))).entries
-        (values_in (DefaultsAre (option_map (λ (m : Member). defaults_of m.sections node) o)))
+        → HoldEach (shape_in (ShapeIs (option_map (λ (m : Member). shape_of m.sheet node) o))).entries
+        (values_in (DefaultsAre (option_map (λ (m : Member). defaults_of m.sheet node) o)))
     by None = λ place entry there modelled. cc (sym (get-empty place_cmp place) ∙ there)
-    by (Some m) = values_have_lengths m.sections node
+    by (Some m) = values_have_lengths m.sheet node
 
 -- what holds of every image holds of that of a project
 pub is_image : (p : Project) → IsSound p → IsImage (image_of p)

@@ -30,9 +30,10 @@ use Rattle.concise_dcf.specs.declared.write.Write.{Write}
 use Rattle.concise_dcf.specs.Writes.{IsSized}
 use Rattle.eds_device.specs.Faults.{most_entries, device_of}
 use Rattle.eds_device.specs.Places.{pairs_of}
+use Rattle.eds_device.specs.Sheets.{Sheet, sheet_of}
 use Rattle.eds_places.specs.declared.fault.DeviceFault.{DeviceFault}
 use Rattle.eds_places.specs.declared.fault.DeviceFault.TheVariants.{Range, Limit, BadByte}
-use Rattle.ini_text.specs.Content.{Content, Section, content_of}
+use Rattle.ini_text.specs.Content.{Content, content_of}
 use Rattle.ini_text.specs.Text.{is_out_of_range, has_bad_byte}
 use Rattle.pdo_links.specs.Tables.{AreFew}
 use Rattle.pdo_links.specs.VendorWrites.{vendor_link_writes}
@@ -50,7 +51,7 @@ use Rattle.pdo_choices.specs.Limits.{IsNumbered, IsWithin}
 use Rattle.pdo_plan.proofs.ChainLemmas.{all_clean, each_within}
 use Rattle.pdo_plan.proofs.JudgedLemmas.{clean_within}
 use Rattle.pdo_stations.specs.Devices.{as_made, Devices, devices_of}
-use Rattle.project_plan.specs.Network.{member_at, sections_of_members, plan_of_project, with_sections, writes_of, Member}
+use Rattle.project_plan.specs.Network.{member_at, sheets_of_members, plan_of_project, with_sheet, writes_of, Member}
 
 not_over : (most n : ℕ) → nat_lt most n ≡ false → n ≤ most
 not_over most n e = grind (arith, nat_tests)
@@ -69,7 +70,7 @@ module _ (p : Project) (sound : IsSound p) where
   unfolding plan_of_project
   all_within =
       let cs : List Clean = clean (plan_of_project p) in
-      let devices : Devices = devices_of (is_three p.version) (sections_of_members p) in
+      let devices : Devices = devices_of (is_three p.version) (sheets_of_members p) in
       all_clean IsWithin cs (each_within devices (λ before c. IsWithin c)
       (λ withheld before m c kept e. clean_within (had_by withheld before) devices m c kept e) (entries p.messages) all_linked)
 
@@ -106,12 +107,12 @@ module _ (p : Project) (sound : IsSound p) where
           count = omega (arith, i, j, length-append tpdos rpdos);
         }
 
-    links_held : (ss : List Section) (is : Bool) → AreLinks (link_writes is (plan_of_project p) ss node)
+    links_held : (sheet : Sheet) (is : Bool) → AreLinks (link_writes is (plan_of_project p) sheet node)
     unfolding set_link_writes vendor_link_writes
-    links_held ss true =
-        let device : AsMade = as_made ss node in
+    links_held sheet true =
+        let device : AsMade = as_made sheet node in
         linked _ _ (few_vendor_tpdos device sent sent_few) (few_vendor_rpdos device taken taken_few)
-    links_held ss false = linked _ _ (few_tpdos ss node sent sent_few) (few_rpdos taken taken_few)
+    links_held sheet false = linked _ _ (few_tpdos sheet node sent sent_few) (few_rpdos taken taken_few)
 
   -- ---- the EDS of each node has at most 4,096 entries
 
@@ -133,20 +134,21 @@ module _ (p : Project) (sound : IsSound p) where
 
   module _ (m : Member) where
     text_of_few : (node : Node) (o : Option (List ℕ)) → text_at p.texts node.eds ≡ o
-        → option_map (λ (text : List ℕ). record { node = node; sections = (content_of text).sections }) o ≡ Some m
-        → length (pairs_of m.sections) ≤ 4096
+        → option_map (λ (sheet : Sheet). record { node = node; sheet = sheet })
+        (option_map (sheet_of (is_three p.version)) o) ≡ Some m
+        → length (pairs_of m.sheet.sections) ≤ 4096
     unfolding AreTexts
     text_of_few node None found is = cc
     text_of_few node (Some text) found is =
-        let made : Member = record { node = node; sections = (content_of text).sections } in
+        let made : Member = record { node = node; sheet = sheet_of (is_three p.version) text } in
         let eds = each_found IsEds p.texts node.eds text sound.texts.1 found in
-        subst (λ (x : Member). length (pairs_of x.sections) ≤ 4096) (same_Some made m is) (text_few text eds.device)
+        subst (λ (x : Member). length (pairs_of x.sheet.sections) ≤ 4096) (same_Some made m is) (text_few text eds.device)
 
-    node_few : (o : Option Node) → option_and_then (with_sections p) o ≡ Some m → length (pairs_of m.sections) ≤ 4096
+    node_few : (o : Option Node) → option_and_then (with_sheet p) o ≡ Some m → length (pairs_of m.sheet.sections) ≤ 4096
     node_few None is = cc
     node_few (Some node) is = text_of_few node (text_at p.texts node.eds) refl is
 
-  member_few : (id : ℕ) (m : Member) → member_at p id ≡ Some m → length (pairs_of m.sections) ≤ 4096
+  member_few : (id : ℕ) (m : Member) → member_at p id ≡ Some m → length (pairs_of m.sheet.sections) ≤ 4096
   unfolding member_at
   member_few id m is = node_few m (node_at p.nodes id) is
 
@@ -155,20 +157,20 @@ module _ (p : Project) (sound : IsSound p) where
   unfolding writes_of node_writes
   writes_countable id m is =
       let entries = member_few id m is in
-      let parameters = writes_few m.sections m.node.params id in
-      let links = (links_held id m.sections (is_three p.version)).count in
+      let parameters = writes_few m.sheet m.node.params id in
+      let links = (links_held id m.sheet (is_three p.version)).count in
       omega (
         arith,
         entries,
         parameters,
         links,
-        length-append (parameter_writes m.sections m.node.params id)
-            (link_writes (is_three p.version) (plan_of_project p) m.sections id),
+        length-append (parameter_writes m.sheet m.node.params id)
+            (link_writes (is_three p.version) (plan_of_project p) m.sheet id),
       )
 
   -- and each has 1 to 512 bytes
   pub writes_fit : (id : ℕ) (m : Member) → All IsSized (writes_of p m id)
   unfolding writes_of node_writes
-  writes_fit id m = All-append IsSized (parameter_writes m.sections m.node.params id)
-      (link_writes (is_three p.version) (plan_of_project p) m.sections id) (writes_sized m.sections m.node.params id)
-      (links_held id m.sections (is_three p.version)).sizes
+  writes_fit id m = All-append IsSized (parameter_writes m.sheet m.node.params id)
+      (link_writes (is_three p.version) (plan_of_project p) m.sheet id) (writes_sized m.sheet m.node.params id)
+      (links_held id m.sheet (is_three p.version)).sizes

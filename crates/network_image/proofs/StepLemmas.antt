@@ -19,8 +19,10 @@ use Rattle.pdo_choices.proofs.RangeLemmas.{between}
 use Rattle.co_values.specs.Types.{form, is_modelled_form, len_of_form, octets}
 use Rattle.co_values.specs.declared.form.Form.{Form}
 use Rattle.co_values.specs.declared.form.Width.{Width}
-use Rattle.co_values.specs.declared.form.Width.TheVariants.{Bits8, Bits16, Bits32, Bits64}
-use Rattle.co_values.specs.declared.form.Form.TheVariants.{Flag, Signed, Unsigned, Characters, HexPairs, Unmodelled}
+use Rattle.co_values.specs.declared.form.Width.TheVariants.{Bits8, Bits16, Bits24, Bits32, Bits40, Bits48, Bits56, Bits64}
+use Rattle.co_values.specs.declared.form.Form.TheVariants.{Flag, Signed, Unsigned, Decimal, Characters, HexPairs}
+use Rattle.co_values.specs.declared.form.Form.TheVariants.{Unmodelled}
+use Rattle.real_texts.specs.declared.real.Real.TheVariants.{Real32, Real64}
 use Rattle.co_values.specs.Values.{longest_value, value, value_in, zero_value}
 use Rattle.cia301.specs.PdoObjects.{is_of_pdos}
 use Rattle.co_dict.specs.Shapes.{Shaped}
@@ -255,6 +257,8 @@ set_value entry text node = by (form entry.kind) (value_in (form entry.kind) tex
     by (Signed width) (Some bytes) is = refl
     by (Unsigned width) None is = refl
     by (Unsigned width) (Some bytes) is = refl
+    by (Decimal real) None is = refl
+    by (Decimal real) (Some bytes) is = refl
     by Characters None is = refl
     by Characters (Some bytes) is = refl
     by HexPairs None is = refl
@@ -271,7 +275,11 @@ spelled text node bytes entry given =
 short_of_width : (width : Width) (bytes : List ℕ) → length bytes ≡ octets width → length bytes ≤ longest_value
 short_of_width Bits8 bytes e = omega (arith, e)
 short_of_width Bits16 bytes e = omega (arith, e)
+short_of_width Bits24 bytes e = omega (arith, e)
 short_of_width Bits32 bytes e = omega (arith, e)
+short_of_width Bits40 bytes e = omega (arith, e)
+short_of_width Bits48 bytes e = omega (arith, e)
+short_of_width Bits56 bytes e = omega (arith, e)
 short_of_width Bits64 bytes e = omega (arith, e)
 
 short_of_form : (f : Form) (bytes : List ℕ)
@@ -280,6 +288,8 @@ short_of_form Unmodelled bytes h = h
 short_of_form Flag bytes h = omega (arith, h)
 short_of_form (Signed width) bytes h = short_of_width width bytes h
 short_of_form (Unsigned width) bytes h = short_of_width width bytes h
+short_of_form (Decimal Real32) bytes h = omega (arith, h)
+short_of_form (Decimal Real64) bytes h = omega (arith, h)
 short_of_form Characters bytes h = h
 short_of_form HexPairs bytes h = h
 

@@ -2,10 +2,11 @@
 use Rattle.std.specs.Prelude.{◌≡◌, ℕ, Some}
 use Rattle.co_project.specs.declared.node.Node.{Node}
 use Rattle.co_project.specs.Project.{Content as Project}
-use Rattle.co_project.specs.Tables.{node_at, text_at}
-use Rattle.part_shelves.specs.Slots.{text_kept, Slots}
+use Rattle.co_project.specs.Tables.{node_at}
+use Rattle.part_shelves.specs.SheetText.{sheet_given}
+use Rattle.part_shelves.specs.Slots.{sheet_kept, Slots}
 
--- they are those of now
+-- they are those of now: each was read from the project's text of its name, by the project's version
 abbrev pub HoldsDevices : Project → Slots → Type 0
 HoldsDevices p devices = (n : ℕ) (node : Node) → node_at p.nodes n ≡ Some node
-    → text_kept devices node.eds ≡ text_at p.texts node.eds
+    → sheet_kept devices node.eds ≡ sheet_given p node.eds

@@ -50,8 +50,8 @@ with_steps i (s ∷ steps) windows = insert windows i (s ∷ steps)
 -- the parts of a node that is made of its EDS
 abbrev pub held_of : Project → ℕ → Member → PartsOfNode
 held_of project node m = record {
-  defaults = defaults_of m.sections node;
-  shape = shape_of m.sections node;
-  expect = record { numbers = identity m.sections node };
+  defaults = defaults_of m.sheet node;
+  shape = shape_of m.sheet node;
+  expect = record { numbers = identity m.sheet node };
   writes = writes_of project m node;
 }

@@ -61,11 +61,11 @@ roster_of_project project = record {
 
 -- the default values of the device of its EDS, at its number
 unfoldable pub defaults_of_node : Project → ℕ → Option Values
-defaults_of_node project node = option_map (λ (m : Member). defaults_of m.sections node) (member_at project node)
+defaults_of_node project node = option_map (λ (m : Member). defaults_of m.sheet node) (member_at project node)
 
 -- the device type and the identity of the device of its EDS
 unfoldable pub identity_of_node : Project → ℕ → Option Identity
-identity_of_node project node = option_map (λ (m : Member). record { numbers = identity m.sections node })
+identity_of_node project node = option_map (λ (m : Member). record { numbers = identity m.sheet node })
     (member_at project node)
 
 -- the write at a place, from 0, of those that the node gets

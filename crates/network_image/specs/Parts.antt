@@ -1,8 +1,8 @@
 -- Which numbers have parts, and which parts these are.
 use Rattle.std.specs.Prelude.{◌≡◌, ℕ, List, Some, None, slice_get}
-use Rattle.ini_text.specs.Content.{Section}
 use Rattle.eds_device.specs.Entries.{defaults_of, shape_of}
 use Rattle.eds_device.specs.Identity.{identity}
+use Rattle.eds_device.specs.Sheets.{Sheet}
 use Rattle.pdo_links.specs.Writes.{node_writes}
 use Rattle.project_edits.specs.Versions.{is_three}
 use Rattle.project_plan.specs.Network.{plan_of_project}
@@ -12,14 +12,14 @@ use Rattle.image_parts.specs.Contents.{DefaultsAre, ShapeIs, ExpectIs, BootIs}
 use Rattle.image_parts.specs.declared.part.Part.TheVariants as part
 use Rattle.network_image.specs.Image.{image_of}
 
--- the parts of a node are those of the device that these sections describe, and its writes those of its parameters and
+-- the parts of a node are those of the device that this data sheet describes, and its writes those of its parameters and
 -- of the plan
-pub record HasParts (project : Project) (id : ℕ) (node : Node) (ss : List Section) : Type 0 where
-  pub defaults : image_of project (part.Defaults id) ≡ DefaultsAre (Some (defaults_of ss id))
-  pub shape : image_of project (part.Shape id) ≡ ShapeIs (Some (shape_of ss id))
-  pub expect : image_of project (part.Expect id) ≡ ExpectIs (Some (record { numbers = identity ss id }))
+pub record HasParts (project : Project) (id : ℕ) (node : Node) (sheet : Sheet) : Type 0 where
+  pub defaults : image_of project (part.Defaults id) ≡ DefaultsAre (Some (defaults_of sheet id))
+  pub shape : image_of project (part.Shape id) ≡ ShapeIs (Some (shape_of sheet id))
+  pub expect : image_of project (part.Expect id) ≡ ExpectIs (Some (record { numbers = identity sheet id }))
   pub writes : (place : ℕ) → image_of project (part.Boot id place)
-      ≡ BootIs (slice_get (node_writes (is_three project.version) (plan_of_project project) node.params ss id) place)
+      ≡ BootIs (slice_get (node_writes (is_three project.version) (plan_of_project project) node.params sheet id) place)
 
 -- a number has none
 pub record HasNoParts (project : Project) (id : ℕ) : Type 0 where

@@ -1,6 +1,7 @@
 //! Laws of the image of a project.
 ghost use Rattle.std.specs.Prelude.{◌≡◌, ◌↔◌, ℕ, Contains, List, None, Some};
-ghost use Rattle.ini_text.specs.Content.{content_of};
+ghost use Rattle.eds_device.specs.Sheets.{sheet_of};
+ghost use Rattle.project_edits.specs.Versions.{is_three};
 ghost use Rattle.co_project.specs.declared.node.Node.{Node as member};
 ghost use Rattle.co_project.specs.Project.{Content as Project};
 ghost use Rattle.co_project.specs.Sound.{IsSound};
@@ -25,11 +26,11 @@ pub fn each_window_has_the_steps_of_its_events()
         ↔ IsStepIn (shape_of_node project) project.events i step }
 {}
 
-/// Each node has the parts of the device of its EDS, and no other number has any.
+/// Each node has the parts of the device of its EDS, read by the version of the project, and no other number has any.
 pub fn each_node_has_the_parts_of_its_device()
     ensures nodes { (project : Project) (id : ℕ) (node : member) → IsSound project
         → node_at project.nodes id ≡ Some node
         → (text : List ℕ) × ((text_at project.texts node.eds ≡ Some text)
-        × HasParts project id node (content_of text).sections) }
+        × HasParts project id node (sheet_of (is_three project.version) text)) }
     ensures others { (project : Project) (id : ℕ) → node_at project.nodes id ≡ None → HasNoParts project id }
 {}

@@ -7,11 +7,12 @@ use Rattle.std.proofs.lemmas.Bool.{leb-true}
 use Rattle.std.specs.Int.{bytes_low_first}
 use Rattle.co_values.specs.declared.data_type.DataType.{DataType}
 use Rattle.co_values.specs.declared.form.Form.{Form}
-use Rattle.co_values.specs.declared.form.Form.TheVariants.{Flag, Signed, Unsigned, Characters, HexPairs, Unmodelled}
+use Rattle.co_values.specs.declared.form.Form.TheVariants.{Flag, Signed, Unsigned, Decimal, Characters, HexPairs, Unmodelled}
 use Rattle.co_values.specs.declared.form.Width.{Width}
-use Rattle.co_values.specs.declared.form.Width.TheVariants.{Bits8, Bits16, Bits32, Bits64}
+use Rattle.co_values.specs.declared.form.Width.TheVariants.{Bits8, Bits16, Bits24, Bits32, Bits40, Bits48, Bits56, Bits64}
 use Rattle.co_values.specs.Number.{formula}
-use Rattle.co_values.specs.Types.{form, octets}
+use Rattle.co_values.specs.Types.{form, octets, real_octets}
+use Rattle.co_values.proofs.Printed.{real_width}
 use Rattle.co_values.specs.Values.{value, value_in, flag_bits, unsigned_bits, signed_text_bits, pair_number, bytes_of_pairs}
 use Rattle.co_values.specs.Values.{longest_value, if_not_too_long}
 
@@ -34,7 +35,11 @@ number_len n (Some x) bytes e = subst (λ (xs : List ℕ). length xs ≡ n) (giv
 octets_few : (width : Width) → (1 ≤ octets width) × (octets width ≤ 8)
 octets_few Bits8 = (omega arith, omega arith)
 octets_few Bits16 = (omega arith, omega arith)
+octets_few Bits24 = (omega arith, omega arith)
 octets_few Bits32 = (omega arith, omega arith)
+octets_few Bits40 = (omega arith, omega arith)
+octets_few Bits48 = (omega arith, omega arith)
+octets_few Bits56 = (omega arith, omega arith)
 octets_few Bits64 = (omega arith, omega arith)
 
 number_sized : (width : Width) (o : Option ℕ) (bytes : List ℕ)
@@ -80,6 +85,10 @@ form_sized Flag text bytes node some e =
 form_sized (Signed width) text bytes node some e = number_sized width (signed_text_bits width text node) bytes e
 form_sized (Unsigned width) text bytes node some e =
     number_sized width (option_and_then (unsigned_bits width) (formula text node)) bytes e
+form_sized (Decimal real) text bytes node some e =
+    let is : length bytes ≡ real_octets real = number_len (real_octets real) _ bytes e in
+    let few = octets_few (real_width real).0 in
+    (omega (arith, (real_width real).1, few.0), omega (arith, (real_width real).1, few.1))
 form_sized Characters text bytes node some e = short text bytes some e
 form_sized HexPairs text bytes node some e = pairs_sized text (bytes_of_pairs text) bytes some refl e
 form_sized Unmodelled text bytes node some e = cc

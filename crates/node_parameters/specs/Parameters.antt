@@ -9,6 +9,7 @@ use Rattle.concise_dcf.specs.declared.write.Write.{Write}
 use Rattle.eds_device.specs.Described.{value_text, unless_empty}
 use Rattle.eds_device.specs.Entries.{entry_at}
 use Rattle.eds_device.specs.Places.{pairs_of}
+use Rattle.eds_device.specs.Sheets.{Sheet}
 use Rattle.cia301.specs.PdoObjects.{is_of_pdos}
 use Rattle.node_parameters.specs.Params.{Texts}
 use Rattle.node_parameters.specs.Judgement.{parameter_bytes}
@@ -25,12 +26,12 @@ abbrev pub write_to : ℕ × ℕ → List ℕ → Write
 write_to place bytes = record { index = place.0; sub = place.1; bytes = bytes }
 
 -- the write of the parameter of an entry, where it has a text and no fault
-abbrev pub parameter_write : List Section → Texts → ℕ → ℕ × ℕ → Option Write
-parameter_write ss params node place =
+abbrev pub parameter_write : Sheet → Texts → ℕ → ℕ × ℕ → Option Write
+parameter_write sheet params node place =
     option_map (write_to place)
-    (option_and_then (λ text. result_ok (parameter_bytes (entry_at ss node place.0 place.1) text node))
-    (parameter_text ss params place))
+    (option_and_then (λ text. result_ok (parameter_bytes (entry_at sheet node place.0 place.1) text node))
+    (parameter_text sheet.sections params place))
 
 -- THE WRITES of a node's parameters, by index and sub-index
-unfoldable pub parameter_writes : List Section → Texts → ℕ → List Write
-parameter_writes ss params node = filter_map (parameter_write ss params node) (pairs_of ss)
+unfoldable pub parameter_writes : Sheet → Texts → ℕ → List Write
+parameter_writes sheet params node = filter_map (parameter_write sheet params node) (pairs_of sheet.sections)

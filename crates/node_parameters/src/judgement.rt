@@ -98,8 +98,8 @@ pub fn judge(
     text: &[u8],
 ) -> Result<Result<Octets, ParameterFault>, AllocError>
     ensures given { IfOk result (λ given. given
-        ≡ parameter_bytes (entry_at device.now.sections node index sub) text.now node) }
-    ensures fits { IfOk result (λ given. IfOk given (Fits (kind_at device.now.sections (index, sub)))) }
+        ≡ parameter_bytes (entry_at device.now node index sub) text.now node) }
+    ensures fits { IfOk result (λ given. IfOk given (Fits (kind_at device.now (index, sub)))) }
 {
     let Some(entry) = device.entry(node, index, sub) else {
         return Ok(Err(ParameterFault::NoEntry));
@@ -140,8 +140,8 @@ pub fn judge_set(
     text: &[u8],
 ) -> Result<Result<Octets, ParameterFault>, AllocError>
     ensures given { IfOk result (λ given. given
-        ≡ set_bytes (entry_at device.now.sections node index sub) text.now node) }
-    ensures fits { IfOk result (λ given. IfOk given (Fits (kind_at device.now.sections (index, sub)))) }
+        ≡ set_bytes (entry_at device.now node index sub) text.now node) }
+    ensures fits { IfOk result (λ given. IfOk given (Fits (kind_at device.now (index, sub)))) }
 {
     let Some(entry) = device.entry(node, index, sub) else {
         return Ok(Err(ParameterFault::NoEntry));

@@ -66,9 +66,9 @@ fn parameter_write(
     sub: u8,
 ) -> Result<Option<Write>, AllocError>
     requires { slice_get (pairs_of device.now.sections) position ≡ Some (index, sub) }
-    ensures write { IfOk result (λ write. write ≡ parameter_write device.now.sections params.now node (index, sub)) }
+    ensures write { IfOk result (λ write. write ≡ parameter_write device.now params.now node (index, sub)) }
     ensures fits { IfOk result (λ write. IfSome write
-        (λ w. Fits (kind_at device.now.sections (w.index, w.sub)) w.bytes)) }
+        (λ w. Fits (kind_at device.now (w.index, w.sub)) w.bytes)) }
 {
     let Some(text) = parameter_text_at(params, device, position, index, sub) else {
         return Ok(None);
@@ -89,10 +89,10 @@ pub fn writes(
     device: &DataSheet,
     node: u8,
 ) -> Result<Vec<Write>, AllocError>
-    ensures writes { IfOk result (λ writes. writes.items ≡ parameter_writes device.now.sections params.now node) }
+    ensures writes { IfOk result (λ writes. writes.items ≡ parameter_writes device.now params.now node) }
 
     // Each is a value of its entry, of from 1 to 512 bytes, and they are at most as many as a device has entries.
-    ensures fits { IfOk result (λ writes. All (λ w. Fits (kind_at device.now.sections (w.index, w.sub)) w.bytes)
+    ensures fits { IfOk result (λ writes. All (λ w. Fits (kind_at device.now (w.index, w.sub)) w.bytes)
         writes.items) }
     ensures sizes { IfOk result (λ writes. All IsSized writes.items) }
     ensures count { IfOk result (λ writes. length writes.items ≤ most_entries) }

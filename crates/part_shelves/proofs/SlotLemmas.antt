@@ -1,5 +1,5 @@
--- The slots that a tree by names makes, where one is put or marked.
-use Rattle.std.proofs.Common.{◌≡◌, ℕ, Vec, List, Bool, true, false, Option, Some, None, IsSome, option_map, cond, refl}
+-- The slots that a tree by names makes, where some are put, marked or let go.
+use Rattle.std.proofs.Common.{◌≡◌, ℕ, Vec, List, Bool, true, false, Option, Some, None, IsSome, option_map, cond, map, refl}
 use Rattle.std.proofs.Common.{sym, ap, subst, ◌∙◌}
 use Rattle.std.specs.BTreeMap.{is_at, BTreeMap, Updates, WritesThrough}
 use Rattle.std.specs.FinMap.{get, get-insert, get-remove, get-retain_keys, insert, remove, retain_keys, same_map}
@@ -9,11 +9,17 @@ use Rattle.std.specs.Ordering.{eq_by_cmp}
 use Rattle.std.proofs.lemmas.Cmp.{nat_list_cmp_total}
 use Rattle.std.proofs.lemmas.Map.Entries.{lookup-filter-keys}
 use Rattle.std.proofs.lemmas.Map.Lookups.{exact_bytes}
+use Rattle.std.proofs.lemmas.Map.Made.{lookup-map_values}
 use Rattle.std.proofs.lemmas.Map.Views.{tells_apart}
 use Rattle.base.proofs.TableLemmas.{alike}
+use Rattle.eds_device.specs.Sheets.{sheet_of}
+use Rattle.project_edits.specs.Versions.{is_three}
 use Rattle.project_messages.specs.Messages.{name_cmp}
 use Rattle.project_messages.proofs.NameLemmas.{key_cmp, made, value_changed, value_found, value_in, value_put}
-use Rattle.part_shelves.specs.Slots.{fresh_at, fresh_slot, text_kept, with_fresh, Slots}
+use Rattle.co_project.specs.Project.{Content as Project}
+use Rattle.co_project.specs.Tables.{text_at}
+use Rattle.part_shelves.specs.SheetText.{sheet_given, sheet_made, sheet_text, SheetText}
+use Rattle.part_shelves.specs.Slots.{fresh_at, fresh_slot, marked, sheet_kept, with_fresh, Slots}
 use Rattle.part_shelves.specs.declared.device_slot.DeviceSlot.{DeviceSlot}
 
 -- the mark set or taken at a slot, if there is one
@@ -34,9 +40,9 @@ module _ {A : Type 0} (tree : BTreeMap (Vec ℕ A) DeviceSlot) (slots : Slots) (
   pub slot_found : (name : List ℕ) → value_in tree.entries name ≡ get slots name
   slot_found name = sym (value_found tree.entries name) ∙ ap (λ (m : Slots). get m name) is
 
-  pub text_found : (name : List ℕ) (o : Option DeviceSlot) → o ≡ value_in tree.entries name
-      → option_map (λ (s : DeviceSlot). s.kept) o ≡ text_kept slots name
-  text_found name o found = ap (option_map (λ (s : DeviceSlot). s.kept)) (found ∙ slot_found name)
+  pub sheet_found : (name : List ℕ) (o : Option DeviceSlot) → o ≡ value_in tree.entries name
+      → option_map (λ (s : DeviceSlot). s.kept) o ≡ sheet_kept slots name
+  sheet_found name o found = ap (option_map (λ (s : DeviceSlot). s.kept)) (found ∙ slot_found name)
 
   module _ (after : BTreeMap (Vec ℕ A) DeviceSlot) where
     pub slot_put : (key : Vec ℕ A) (s : DeviceSlot) → Updates key_cmp tree after key (Some s)
@@ -91,36 +97,36 @@ module _ (slots : Slots) (name : List ℕ) where
       by true same = ap (get slots) (alike nat_list_cmp_total exact_bytes q name same) ∙ there
       by false other = refl
 
-  fresh_is : (o : Option DeviceSlot) (text : Option (List ℕ))
+  fresh_is : (o : Option DeviceSlot) (given : Option SheetText)
       → option_map_or (λ (s : DeviceSlot). s.fresh) o false ≡ true
-      → option_map (λ (s : DeviceSlot). s.kept) o ≡ text → o ≡ option_map fresh_slot text
-  fresh_is None text fresh same = cc
+      → option_map (λ (s : DeviceSlot). s.kept) o ≡ given → o ≡ option_map fresh_slot given
+  fresh_is None given fresh same = cc
   fresh_is (Some s) None fresh same = cc
-  fresh_is (Some s) (Some t) fresh same =
-      let e : s.kept ≡ t = cc in
+  fresh_is (Some s) (Some g) fresh same =
+      let e : s.kept ≡ g = cc in
       let f : s.fresh ≡ true = cc in
-      ap Some (ap (λ (k : List ℕ). slot k s.fresh) e ∙ ap (slot t) f)
+      ap Some (ap (λ (k : SheetText). slot k s.fresh) e ∙ ap (slot g) f)
     where
-      slot : List ℕ → Bool → DeviceSlot
+      slot : SheetText → Bool → DeviceSlot
       slot k f = record { kept = k; fresh = f }
 
-  -- a text without a mark
-  pub fresh_stands : (text : Option (List ℕ)) → fresh_at slots name ≡ true → text_kept slots name ≡ text
-      → StandsAt slots (option_map fresh_slot text)
-  fresh_stands text fresh same =
-      same_stands (option_map fresh_slot text) (fresh_is (get slots name) text fresh same)
+  -- a device without a mark
+  pub fresh_stands : (given : Option SheetText) → fresh_at slots name ≡ true → sheet_kept slots name ≡ given
+      → StandsAt slots (option_map fresh_slot given)
+  fresh_stands given fresh same =
+      same_stands (option_map fresh_slot given) (fresh_is (get slots name) given fresh same)
 
   -- a mark is taken
-  pub cleared_stands : (text : List ℕ) → text_kept slots name ≡ Some text
-      → StandsAt (with_fresh slots name true) (Some (fresh_slot text))
-  cleared_stands text same = by (get slots name) refl same
+  pub cleared_stands : (given : SheetText) → sheet_kept slots name ≡ Some given
+      → StandsAt (with_fresh slots name true) (Some (fresh_slot given))
+  cleared_stands given same = by (get slots name) refl same
     where
-      by : (o : Option DeviceSlot) → get slots name ≡ o → option_map (λ (s : DeviceSlot). s.kept) o ≡ Some text
-          → StandsAt (set_at slots name true o) (Some (fresh_slot text))
+      by : (o : Option DeviceSlot) → get slots name ≡ o → option_map (λ (s : DeviceSlot). s.kept) o ≡ Some given
+          → StandsAt (set_at slots name true o) (Some (fresh_slot given))
       by None there is = cc
       by (Some s) there is =
-          let e : s.kept ≡ text = cc in
-          subst (λ (k : List ℕ). StandsAt (insert slots name (record s { fresh = true })) (Some (fresh_slot k))) e
+          let e : s.kept ≡ given = cc in
+          subst (λ (k : SheetText). StandsAt (insert slots name (record s { fresh = true })) (Some (fresh_slot k))) e
           (put_stands (record s { fresh = true }))
 
 -- ---- what is let go
@@ -136,3 +142,26 @@ names_kept {A} known es kept left =
     (λ k t. ap known (sym (tells_apart exact_bytes q k.items t))) es
     ∙ ap (λ o. cond (known q) o None) (sym (value_found es q))
     ∙ sym (get-retain_keys (made es) known q (λ x t. ap known (sym (exact_bytes q x t)))))
+
+-- ---- what has a mark
+
+-- the slots, where each has one
+pub all_marked : {A : Type 0} (es after : List (Vec ℕ A × DeviceSlot)) → after ≡ map (λ e. (e.0, marked e.1)) es
+    → (q : List ℕ) → get (made after) q ≡ option_map marked (get (made es) q)
+all_marked {A} es after each q =
+    value_found after q
+    ∙ ap (λ (fs : List (Vec ℕ A × DeviceSlot)). value_in fs q) each
+    ∙ lookup-map_values marked (λ (k : Vec ℕ A). is_at (name_cmp q) k.items) es
+    ∙ ap (option_map marked) (sym (value_found es q))
+
+-- ---- what a device is read from
+
+-- the device of a name, by what it is to be read from now
+pub sheet_read : (p : Project) (name : List ℕ) → option_map sheet_made (sheet_given p name)
+    ≡ option_map (sheet_of (is_three p.version)) (text_at p.texts name)
+sheet_read p name = by (text_at p.texts name)
+  where
+    by : (o : Option (List ℕ)) → option_map sheet_made (option_map (sheet_text (is_three p.version)) o)
+        ≡ option_map (sheet_of (is_three p.version)) o
+    by None = refl
+    by (Some text) = refl

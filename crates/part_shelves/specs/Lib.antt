@@ -1,2 +1,3 @@
+pub mod SheetText
 pub mod Slots
 pub mod Busy

@@ -6,9 +6,9 @@ ghost use Rattle.std.specs.Ordering.{eq_by_cmp};
 ghost use Rattle.eds_device.specs.Faults.{device_of};
 ghost use Rattle.ini_text.specs.Content.{content_of};
 ghost use Rattle.project_messages.specs.Messages.{by_name, name_cmp};
-ghost use Rattle.co_project.specs.Tables.{text_at};
 ghost use Rattle.kept_values.specs.Work.{Refreshes, Rises};
-ghost use Rattle.part_shelves.specs.Slots.{fresh_at, fresh_slot, text_kept, with_fresh};
+ghost use Rattle.part_shelves.specs.SheetText.{sheet_given, sheet_made, sheet_text};
+ghost use Rattle.part_shelves.specs.Slots.{fresh_at, fresh_slot, marked, sheet_kept, with_fresh};
 
 use crate::eds_text::keep_device;
 use crate::seat::Seat;
@@ -22,7 +22,7 @@ use std::alloc::{AllocError, Global};
 use std::collections::BTreeMap;
 use std::marker::Model;
 
-/// The devices of EDS by the names of these, each with its text and a mark. A call takes time by the
+/// The devices of EDS by the names of these, each with what it was read from and a mark. A call takes time by the
 /// logarithm of their number.
 #[derive(Drop)]
 pub struct DeviceShelf {
@@ -49,6 +49,17 @@ fn keep_named(slots: &mut BTreeMap<Vec<u8>, Seat>, project: &Project)
         ≡ map.retain_keys (map.from_entries (by_name slots.old.entries)) (map.contains_key project.now.texts) }
 {
     slots.retain(|name, _seat| project.text(name).is_some());
+}
+
+/// Sets the mark of each device.
+fn mark_each(slots: &mut BTreeMap<Vec<u8>, Seat>)
+    ensures { (q : List ℕ) → map.get (map.from_entries {R = name_cmp} (by_name slots.new.entries)) q
+        ≡ option_map marked (map.get (map.from_entries {R = name_cmp} (by_name slots.old.entries)) q) }
+{
+    slots.retain(|_name, seat| {
+        seat.set_fresh(false);
+        true
+    });
 }
 
 impl DeviceShelf {
@@ -88,7 +99,7 @@ impl DeviceShelf {
         keep_named(&mut self.slots, project);
     }
 
-    /// Sets or takes the mark of a name, if a text is kept under it.
+    /// Sets or takes the mark of a name, if a device is kept under it.
     fn set_fresh(&mut self, name: &[u8], fresh: bool)
         ensures { self.new ≡ with_fresh self.old name.now fresh }
     {
@@ -105,9 +116,16 @@ impl DeviceShelf {
         self.set_fresh(name, false);
     }
 
+    /// Sets the mark of each name, as `mark` does. Takes time by their number.
+    pub fn mark_all(&mut self)
+        ensures { (q : List ℕ) → map.get self.new q ≡ option_map marked (map.get self.old q) }
+    {
+        mark_each(&mut self.slots);
+    }
+
     /// The device of a name that is kept.
     pub fn value(&self, name: &[u8]) -> Option<&Shared<DataSheet>>
-        ensures { option_copied result ≡ option_map content_of (text_kept self.now name.now) }
+        ensures { option_copied result ≡ option_map sheet_made (sheet_kept self.now name.now) }
     {
         match self.get(name) {
             Some(seat) => Some(seat.device()),
@@ -125,7 +143,7 @@ impl DeviceShelf {
         name: &[u8],
     ) -> Result<Option<Shared<DataSheet>>, AllocError>
         ensures same { self.new ≡ self.old }
-        ensures device { IfOk result (λ d. d ≡ option_map content_of (text_kept self.old name.now)) }
+        ensures device { IfOk result (λ d. d ≡ option_map sheet_made (sheet_kept self.old name.now)) }
     {
         let Some(seat) = self.slots.get_mut(name) else {
             return Ok(None);
@@ -145,7 +163,7 @@ impl DeviceShelf {
     ) -> Result<Option<Shared<Template>>, AllocError>
         ensures same { self.new ≡ self.old }
         ensures template { IfOk result (λ t. IfSome t (λ t.
-            option_map content_of (text_kept self.old name.now) ≡ Some t)) }
+            option_map sheet_made (sheet_kept self.old name.now) ≡ Some t)) }
     {
         let Some(seat) = self.slots.get_mut(name) else {
             return Ok(None);
@@ -163,7 +181,7 @@ impl DeviceShelf {
         many: bool,
     ) -> Result<Option<Shared<DataSheet>>, AllocError>
         ensures same { self.new ≡ self.old }
-        ensures device { IfOk result (λ d. d ≡ option_map content_of (text_kept self.old name.now)) }
+        ensures device { IfOk result (λ d. d ≡ option_map sheet_made (sheet_kept self.old name.now)) }
     {
         if many {
             let common = self.common(alloc, name)?;
@@ -182,11 +200,11 @@ impl DeviceShelf {
         }
     }
 
-    fn has_text(&self, name: &[u8], text: &[u8]) -> bool
-        ensures { IsTrue result ↔ (text_kept self.now name.now ≡ Some text.now) }
+    fn has_text(&self, name: &[u8], is_three: bool, text: &[u8]) -> bool
+        ensures { IsTrue result ↔ (sheet_kept self.now name.now ≡ Some (sheet_text is_three text.now)) }
     {
         match self.get(name) {
-            Some(seat) => seat.text() == text,
+            Some(seat) => seat.is_of(is_three, text),
             None => false,
         }
     }
@@ -199,21 +217,29 @@ impl DeviceShelf {
         }
     }
 
-    /// Reads the text of a name, and keeps its device.
-    fn read(&mut self, alloc: Global, name: &[u8], text: &[u8]) -> Result<(), AllocError>
+    /// Reads the text of a name by the rules of version 3 or not, and keeps its device.
+    fn read(
+        &mut self,
+        alloc: Global,
+        name: &[u8],
+        is_three: bool,
+        text: &[u8],
+    ) -> Result<(), AllocError>
         requires { device_of text.now ≡ Ok (content_of text.now) }
-        ensures ok { OnOk result (self.new ≡ map.insert self.old name.now (fresh_slot text.now)) }
+        ensures ok { OnOk result (self.new
+            ≡ map.insert self.old name.now (fresh_slot (sheet_text is_three text.now))) }
         ensures err { OnErr result (self.new ≡ self.old) }
     {
-        let kept = keep_device(alloc, text)?;
+        let kept = keep_device(alloc, is_three, text)?;
         let before = self.shape(name)?;
         let name = Vec::from_slice(alloc, name)?;
         self.put(name, Seat::new(kept, before))
     }
 
-    /// Reads the text that a project has under a name anew if it is another one, and lets the device
-    /// go if there is none. A name without a mark takes no look at the text, the same text time by
-    /// its length, and another one time and memory by its length and its logarithm.
+    /// Reads the text that a project has under a name anew if it is another one than before, or if the version has
+    /// become 3 since or is 3 no longer; and lets the device go if there is no text. A name without a mark takes
+    /// no look at the text, the same text time by its length, and one that is read time and memory by its length and
+    /// its logarithm.
     pub fn bring(
         &mut self,
         alloc: Global,
@@ -222,13 +248,13 @@ impl DeviceShelf {
         meter: &mut Meter,
     ) -> Result<(), AllocError>
         requires { fresh_at self.old name.now ≡ true
-            → text_kept self.old name.now ≡ text_at project.now.texts name.now }
+            → sheet_kept self.old name.now ≡ sheet_given project.now name.now }
         ensures ok { OnOk result ((q : List ℕ) → map.get self.new q
             ≡ cond (eq_by_cmp name_cmp q name.now)
-            (option_map fresh_slot (text_at project.now.texts name.now)) (map.get self.old q)) }
+            (option_map fresh_slot (sheet_given project.now name.now)) (map.get self.old q)) }
         ensures err { OnErr result (self.new ≡ self.old) }
         ensures counted { OnOk result (Refreshes
-            (text_kept self.old name.now) (text_at project.now.texts name.now) meter.old meter.new) }
+            (sheet_kept self.old name.now) (sheet_given project.now name.now) meter.old meter.new) }
         ensures uncounted { OnErr result (meter.new ≡ meter.old) }
         ensures rises { Rises meter.old meter.new }
     {
@@ -239,11 +265,12 @@ impl DeviceShelf {
             self.remove(name);
             return Ok(());
         };
-        if self.has_text(name, text) {
+        let is_three = project.version().is_three();
+        if self.has_text(name, is_three, text) {
             self.set_fresh(name, true);
             return Ok(());
         }
-        self.read(alloc, name, text)?;
+        self.read(alloc, name, is_three, text)?;
         meter.refreshed();
         Ok(())
     }

@@ -5,7 +5,7 @@ use base::Shared;
 use eds_device::DataSheet;
 use kept_values::Kept;
 
-/// A device with its text, and whether that is known to be the text of now.
+/// A device with what it was read from, and whether that is known to be what it is to be read from now.
 #[derive(Drop)]
 pub struct DeviceSlot {
     pub kept: Kept<EdsText, Shared<DataSheet>>,

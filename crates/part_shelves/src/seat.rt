@@ -1,6 +1,6 @@
 //! A slot, with the device for many nodes.
-ghost use Rattle.std.specs.Prelude.{◌≡◌, IfOk, IfSome, true};
-ghost use Rattle.ini_text.specs.Content.{content_of};
+ghost use Rattle.std.specs.Prelude.{◌≡◌, ◌↔◌, IfOk, IfSome, IsTrue, true};
+ghost use Rattle.part_shelves.specs.SheetText.{sheet_made, sheet_text};
 ghost use Rattle.part_shelves.specs.Slots.{fresh_slot};
 
 use crate::device_slot::DeviceSlot;
@@ -28,15 +28,15 @@ pub struct Seat {
 
 impl Model for Seat {
     ghost use Rattle.std.specs.Prelude.{◌≡◌, IfSome};
-    ghost use Rattle.ini_text.specs.Content.{content_of};
+    ghost use Rattle.part_shelves.specs.SheetText.{sheet_made};
     ghost use Rattle.part_shelves.specs.declared.device_slot.DeviceSlot.{DeviceSlot as Slot};
 
     ghost Value = { Slot };
 
     ghost view = { λ s. s.slot };
 
-    ghost invariant = { λ s. IfSome s.common (λ d. d ≡ content_of s.slot.kept)
-        × IfSome s.template (λ t. t ≡ content_of s.slot.kept) };
+    ghost invariant = { λ s. IfSome s.common (λ d. d ≡ sheet_made s.slot.kept)
+        × IfSome s.template (λ t. t ≡ sheet_made s.slot.kept) };
 }
 
 impl Seat {
@@ -60,16 +60,16 @@ impl Seat {
         self.slot.fresh
     }
 
-    /// The text.
-    pub fn text(&self) -> &[u8]
-        ensures { result.now ≡ self.now.kept }
+    /// Whether it was read from this text, by the rules of version 3 or not.
+    pub fn is_of(&self, is_three: bool, text: &[u8]) -> bool
+        ensures { IsTrue result ↔ (self.now.kept ≡ sheet_text is_three text.now) }
     {
-        self.slot.kept.inputs().as_slice()
+        self.slot.kept.inputs().is_text(is_three, text)
     }
 
     /// The device.
     pub fn device(&self) -> &Shared<DataSheet>
-        ensures { result.now ≡ content_of self.now.kept }
+        ensures { result.now ≡ sheet_made self.now.kept }
     {
         self.slot.kept.value()
     }
@@ -105,7 +105,7 @@ impl Seat {
     /// the only error.
     pub fn common(&mut self, alloc: Global) -> Result<Shared<DataSheet>, AllocError>
         ensures same { self.new ≡ self.old }
-        ensures device { IfOk result (λ d. d ≡ content_of self.old.kept) }
+        ensures device { IfOk result (λ d. d ≡ sheet_made self.old.kept) }
     {
         if let Some(common) = &self.common {
             return common.share();
@@ -122,7 +122,7 @@ impl Seat {
     /// one DCF alone is made at less cost without. Want of memory is the only error.
     pub fn template(&mut self, alloc: Global) -> Result<Option<Shared<Template>>, AllocError>
         ensures same { self.new ≡ self.old }
-        ensures template { IfOk result (λ t. IfSome t (λ t. t ≡ content_of self.old.kept)) }
+        ensures template { IfOk result (λ t. IfSome t (λ t. t ≡ sheet_made self.old.kept)) }
     {
         if let Some(template) = &self.template {
             let template = template.share()?;

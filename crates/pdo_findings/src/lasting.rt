@@ -16,12 +16,11 @@ const COB_ID: u8 = 1;
 pub(crate) fn lasting_identifier(device: &AsMade, object: u16) -> Option<u16>
     ensures { result ≡ lasting_identifier device.now object }
 {
+    if !has_parameter(device, object, COB_ID) {
+        return None;
+    }
     let cob_id = CobId::of(parameter_default(device, object, COB_ID));
-    if has_parameter(device, object, COB_ID)
-        && cob_id.is_valid()
-        && cob_id.is_of_base_frames()
-        && !is_switched_off(device, object)
-    {
+    if cob_id.is_valid() && cob_id.is_of_base_frames() && !is_switched_off(device, object) {
         Some(cob_id.identifier().number())
     } else {
         None

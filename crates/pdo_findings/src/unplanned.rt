@@ -9,11 +9,12 @@ ghost use Rattle.std.specs.Prelude.{List};
 
 use crate::lasting::{lasting_identifier, sends_on};
 use crate::used::{heard_identifiers, used_rpdos, used_tpdos};
-use cia301::{rpdo_object, tpdo_object};
+use cia301::{LAST_PDO, rpdo_object, tpdo_object};
 use pdo_links::Plan;
 use pdo_stations::AsMade;
 use std::alloc::{AllocError, Global};
 use std::collections::BTreeSet;
+use vendor_pdos::{next_rpdo, next_tpdo};
 
 /// Adds the number of a TPDO, up to 512, that sends beside the plan.
 fn add_tpdo(
@@ -35,7 +36,6 @@ fn add_tpdo(
 
 /// The numbers of the TPDOs of a node that send beside the plan, in order: no clean message is sent by them, and they are
 /// on by default and can't be switched off. Takes time by the number of messages and the logarithm of that of the entries.
-#[tactic(auto, unfolding(crate::specs::Findings::unplanned_tpdos))]
 pub fn unplanned_tpdos(
     alloc: Global,
     plan: &Plan,
@@ -46,8 +46,10 @@ pub fn unplanned_tpdos(
 {
     let used = used_tpdos(alloc, plan, node)?;
     let mut found = Vec::new(alloc);
-    for number in 1..513 {
+    let mut number = next_tpdo(device, 1);
+    'numbers: while number <= LAST_PDO {
         add_tpdo(&mut found, &used, device, number)?;
+        number = next_tpdo(device, number + 1);
     }
     Ok(found)
 }
@@ -78,7 +80,6 @@ fn add_rpdo(
 /// The numbers of the RPDOs of a node that take a message that isn't meant for them, in order: no clean message is taken by
 /// them as planned, and they have the identifier of one of another node by default and can't be switched off. Takes time
 /// by the number of messages with their consumers, and the logarithm of that of the entries.
-#[tactic(auto, unfolding(crate::specs::Findings::unplanned_rpdos))]
 pub fn unplanned_rpdos(
     alloc: Global,
     plan: &Plan,
@@ -90,8 +91,10 @@ pub fn unplanned_rpdos(
     let used = used_rpdos(alloc, plan, node)?;
     let heard = heard_identifiers(alloc, plan, node)?;
     let mut found = Vec::new(alloc);
-    for number in 1..513 {
+    let mut number = next_rpdo(device, 1);
+    'numbers: while number <= LAST_PDO {
         add_rpdo(&mut found, &used, &heard, device, number)?;
+        number = next_rpdo(device, number + 1);
     }
     Ok(found)
 }

@@ -1,69 +1,68 @@
 -- The writes of all numbers in their order: of each that is used, and of each that isn't.
-use Rattle.std.proofs.Common.{◌≡◌, ℕ, zero, suc, ◌+◌, ◌*◌, List, [], ◌∷◌, ◌++◌, Option, Some, None}
-use Rattle.std.proofs.Common.{◌≤◌, refl, sym, ap, subst, ◌∙◌, arith}
+use Rattle.std.proofs.Common.{◌≡◌, ⊎_elim, ℕ, zero, suc, ◌+◌, ◌*◌, ◌<◌, ◌≤◌, List, [], Option, Some, None}
+use Rattle.std.proofs.Common.{refl, sym, ap, subst, ◌∙◌, arith}
 use Rattle.std.specs.BTreeMap.{is_at}
 use Rattle.std.specs.List.{flat_map, range_with_len}
 use Rattle.std.specs.Map.{lookup}
 use Rattle.std.specs.Option.{option_map_or}
 use Rattle.std.specs.Ordering.{nat_cmp}
-use Rattle.std.proofs.lemmas.Grind.{flat_map-append}
+use Rattle.std.proofs.lemmas.Bool.{cases_lt}
 use Rattle.concise_dcf.specs.declared.write.Write.{Write}
-use Rattle.ini_text.specs.Content.{Section}
+use Rattle.eds_device.specs.Sheets.{Sheet}
+use Rattle.pdo_stations.proofs.RoomLemmas.{here_or_past}
 use Rattle.pdo_links.specs.Tables.{AreFew, AreValues}
 use Rattle.pdo_links.specs.VendorWrites.{each_by_number}
-use Rattle.pdo_links.proofs.Numbered.{append_none}
 use Rattle.pdo_links.proofs.Held.{at_most, holds_both, holds_none, Holds}
 use Rattle.pdo_links.proofs.Values.{both_values, no_values}
-
-range_more : (a n : ℕ) → range_with_len a (suc n) ≡ range_with_len a n ++ (a + n) ∷ []
-range_more a zero = let e : a ≡ a + 0 = omega arith in ap (λ (k : ℕ). k ∷ []) e
-range_more a (suc n) =
-    let e : a + 1 + n ≡ a + suc n = omega arith in
-    ap (λ (ks : List ℕ). a ∷ ks) (range_more (a + 1) n
-    ∙ ap (λ (k : ℕ). range_with_len (a + 1) n ++ k ∷ []) e)
 
 module _ {Y : Type 0} (used : Y → List Write) (unused : ℕ → List Write) (pdos : List (ℕ × Y)) where
   abbrev pub at_each : ℕ → List Write
   at_each number = option_map_or used (lookup (is_at (nat_cmp number)) pdos) (unused number)
 
-  -- the writes of the first numbers
-  abbrev pub up_to : ℕ → List Write
-  up_to n = flat_map at_each (range_with_len 1 n)
+  -- of a number that no message uses, and that nothing is written of
+  pub nothing_at : (number : ℕ) → (let none : Option Y = None in lookup (is_at (nat_cmp number)) pdos ≡ none)
+      → unused number ≡ [] → at_each number ≡ []
+  nothing_at number is off = ap (λ (o : Option Y). option_map_or used o (unused number)) is ∙ off
 
-  pub one_number_more : (n number : ℕ) → n + 1 ≡ number → up_to number ≡ up_to n ++ at_each number
-  one_number_more n number is =
-      let e : number ≡ suc n = omega (arith, is) in
-      let f : 1 + n ≡ number = omega (arith, is) in
-      ap up_to e ∙ ap (flat_map at_each) (range_more 1 n)
-      ∙ flat_map-append at_each (range_with_len 1 n) ((1 + n) ∷ [])
-      ∙ ap (λ (ws : List Write). up_to n ++ ws) (append_none (at_each (1 + n)))
-      ∙ ap (λ (k : ℕ). up_to n ++ at_each k) f
-
-  -- ---- from number to number
-
-  no_numbers : (n : ℕ) → n + 1 ≡ 1 → up_to n ≡ []
-  no_numbers n is = let e : n ≡ 0 = omega (arith, is) in ap up_to e
-
-  pub started_values : (ss : List Section) (n : ℕ) → n + 1 ≡ 1 → AreValues ss (up_to n)
-  started_values ss n is = subst (AreValues ss) (sym (no_numbers n is)) (no_values ss)
-
-  next : (n m : ℕ) → n + 1 ≡ suc m + 1 → up_to n ≡ up_to m ++ at_each (suc m)
-  next n m is =
-      let e : n ≡ suc m = omega (arith, is) in let f : m + 1 ≡ suc m = omega arith in
-      ap up_to e ∙ one_number_more m (suc m) f
-
-  pub continued_values : (ss : List Section) (part : List Write) (n number : ℕ) → n + 1 ≡ number + 1 → 1 ≤ number
-      → ((m : ℕ) → m + 1 ≡ number → AreValues ss (up_to m)) → AreValues ss part → part ≡ at_each number
-      → AreValues ss (up_to n)
-  continued_values ss part n zero is low so_far added here = absurd (omega arith)
-  continued_values ss part n (suc m) is low so_far added here =
-      let f : m + 1 ≡ suc m = omega arith in
-      subst (AreValues ss) (sym (next n m is)) (both_values ss (up_to m) (at_each (suc m)) (so_far m f)
-      (subst (AreValues ss) here added))
-
-  pub all_numbers : each_by_number used unused pdos ≡ up_to 512
+  pub all_numbers : each_by_number used unused pdos ≡ flat_map at_each (range_with_len 1 512)
   unfolding each_by_number
   all_numbers = refl
+
+  -- ---- values of their entries
+
+  module _ (sheet : Sheet) where
+    -- those of the numbers so far are
+    abbrev pub AreValuesTo : ℕ → Type 0
+    AreValuesTo next = (number : ℕ) → 1 ≤ number → number < next → AreValues sheet (at_each number)
+
+    empty_values : (number : ℕ) → at_each number ≡ [] → AreValues sheet (at_each number)
+    empty_values number none = subst (AreValues sheet) (sym none) (no_values sheet)
+
+    pub started_values : (next : ℕ) → ((number : ℕ) → 1 ≤ number → number < next → at_each number ≡ []) → AreValuesTo next
+    started_values next none = λ number low below. empty_values number (none number low below)
+
+    pub continued_values : (part : List Write) (number next : ℕ) → AreValuesTo number → AreValues sheet part
+        → part ≡ at_each number
+        → ((k : ℕ) → number + 1 ≤ k → k < next → at_each k ≡ []) → AreValuesTo next
+    continued_values part number next so_far added here none = λ k low below.
+        ⊎_elim (λ (before : k < number). so_far k low before)
+        (λ (from : number ≤ k). ⊎_elim
+        (λ (same : number ≡ k). subst (λ (n : ℕ). AreValues sheet (at_each n)) same
+        (subst (AreValues sheet) here added))
+        (λ (past : number + 1 ≤ k). empty_values k (none k past below))
+        (here_or_past number k from)) (cases_lt k number)
+
+    range_values : (first n : ℕ) → ((number : ℕ) → first ≤ number → number < first + n → AreValues sheet (at_each number))
+        → AreValues sheet (flat_map at_each (range_with_len first n))
+    range_values first zero each = no_values sheet
+    range_values first (suc n) each =
+        both_values sheet (at_each first) (flat_map at_each (range_with_len (first + 1) n))
+        (each first (omega arith) (omega arith))
+        (range_values (first + 1) n (λ number low below. each number (omega arith) (omega arith)))
+
+    pub all_values : AreValuesTo 513 → AreValues sheet (each_by_number used unused pdos)
+    unfolding each_by_number
+    all_values each = range_values 1 512 (λ number low below. each number low (omega (arith, below)))
 
   -- ---- how many they are
 

@@ -8,8 +8,8 @@ use Rattle.byteorder.specs.Endian.{little_bytes, little_number}
 use Rattle.co_values.specs.declared.form.Width.TheVariants.{Bits8, Bits16}
 use Rattle.cia301.specs.CobIds.{is_valid, no_rtr_bit, off_bit}
 use Rattle.concise_dcf.specs.declared.write.Write.{Write}
-use Rattle.ini_text.specs.Content.{Section}
 use Rattle.eds_device.specs.Entries.{entry_at}
+use Rattle.eds_device.specs.Sheets.{Sheet}
 use Rattle.pdo_choices.specs.declared.clean.Clean.{Clean}
 use Rattle.pdo_choices.specs.declared.consumer.Consumer.{Consumer}
 use Rattle.pdo_stations.specs.declared.mapped.Mapped.{Mapped}
@@ -116,16 +116,16 @@ module _ (object index : ℕ) (apart : (index == object) ≡ false) where
     no_entry_cobs 1 mapping,
   ) refl
 
-  no_times : (ss : List Section) (node sub time : ℕ) → to_object object (time_write ss node index sub time) ≡ []
-  no_times ss node sub time = by (option_map_or (takes_unsigned Bits16) (entry_at ss node index sub) false)
+  no_times : (sheet : Sheet) (node sub time : ℕ) → to_object object (time_write sheet node index sub time) ≡ []
+  no_times sheet node sub time = by (option_map_or (takes_unsigned Bits16) (entry_at sheet node index sub) false)
     where
       by : (b : Bool) → let ws : List Write = if b then write_at index sub (little_bytes 2 time) ∷ [] else []
           in to_object object ws ≡ []
       by true = rw apart refl
       by false = refl
 
-  no_start : (ss : List Section) (node start : ℕ) → to_object object (start_write ss node index start) ≡ []
-  no_start ss node start = by (option_map_or (takes_unsigned Bits8) (entry_at ss node index 6) false)
+  no_start : (sheet : Sheet) (node start : ℕ) → to_object object (start_write sheet node index start) ≡ []
+  no_start sheet node start = by (option_map_or (takes_unsigned Bits8) (entry_at sheet node index 6) false)
     where
       by : (b : Bool) → let ws : List Write = if b then write_at index 6 (start ∷ []) ∷ [] else []
           in to_object object ws ≡ []
@@ -179,17 +179,17 @@ module _ (object : ℕ) where
 -- ---- a PDO
 
 module _ (object index : ℕ) (mapping_apart : (object == index) ≡ false) (apart : (index == object) ≡ false) where
-  no_time_cobs : (ss : List Section) (node sub time : ℕ) → (sub == 1) ≡ false
-      → filter (is_to object 1) (time_write ss node object sub time) ≡ []
-  no_time_cobs ss node sub time other = by (option_map_or (takes_unsigned Bits16) (entry_at ss node object sub) false)
+  no_time_cobs : (sheet : Sheet) (node sub time : ℕ) → (sub == 1) ≡ false
+      → filter (is_to object 1) (time_write sheet node object sub time) ≡ []
+  no_time_cobs sheet node sub time other = by (option_map_or (takes_unsigned Bits16) (entry_at sheet node object sub) false)
     where
       by : (b : Bool) → let ws : List Write = if b then write_at object sub (little_bytes 2 time) ∷ [] else []
           in filter (is_to object 1) ws ≡ []
       by true = rw other refl
       by false = refl
 
-  no_start_cobs : (ss : List Section) (node start : ℕ) → filter (is_to object 1) (start_write ss node object start) ≡ []
-  no_start_cobs ss node start = by (option_map_or (takes_unsigned Bits8) (entry_at ss node object 6) false)
+  no_start_cobs : (sheet : Sheet) (node start : ℕ) → filter (is_to object 1) (start_write sheet node object start) ≡ []
+  no_start_cobs sheet node start = by (option_map_or (takes_unsigned Bits8) (entry_at sheet node object 6) false)
     where
       by : (b : Bool) → let ws : List Write = if b then write_at object 6 (start ∷ []) ∷ [] else []
           in filter (is_to object 1) ws ≡ []
@@ -197,62 +197,62 @@ module _ (object index : ℕ) (mapping_apart : (object == index) ≡ false) (apa
       by false = refl
 
   -- the times and the SYNC start value of a TPDO
-  abbrev timing : List Section → ℕ → ℕ → ℕ → ℕ → List Write
-  timing ss node inhibit event start =
-      time_write ss node object 3 inhibit ++ time_write ss node object 5 event ++ start_write ss node object start
+  abbrev timing : Sheet → ℕ → ℕ → ℕ → ℕ → List Write
+  timing sheet node inhibit event start =
+      time_write sheet node object 3 inhibit ++ time_write sheet node object 5 event ++ start_write sheet node object start
 
-  no_timing : (ss : List Section) (node inhibit event start : ℕ)
-      → to_object index (timing ss node inhibit event start) ≡ []
-  no_timing ss node inhibit event start = rw (
+  no_timing : (sheet : Sheet) (node inhibit event start : ℕ)
+      → to_object index (timing sheet node inhibit event start) ≡ []
+  no_timing sheet node inhibit event start = rw (
     filter-append (λ (w : Write). w.index == index)
-        (time_write ss node object 3 inhibit ++ time_write ss node object 5 event) (start_write ss node object start),
-    filter-append (λ (w : Write). w.index == index) (time_write ss node object 3 inhibit)
-        (time_write ss node object 5 event),
-    no_times index object mapping_apart ss node 3 inhibit,
-    no_times index object mapping_apart ss node 5 event,
-    no_start index object mapping_apart ss node start,
+        (time_write sheet node object 3 inhibit ++ time_write sheet node object 5 event) (start_write sheet node object start),
+    filter-append (λ (w : Write). w.index == index) (time_write sheet node object 3 inhibit)
+        (time_write sheet node object 5 event),
+    no_times index object mapping_apart sheet node 3 inhibit,
+    no_times index object mapping_apart sheet node 5 event,
+    no_start index object mapping_apart sheet node start,
   ) refl
 
-  no_timing_cobs : (ss : List Section) (node inhibit event start : ℕ)
-      → filter (is_to object 1) (timing ss node inhibit event start) ≡ []
-  no_timing_cobs ss node inhibit event start = rw (
-    filter-append (is_to object 1) (time_write ss node object 3 inhibit ++ time_write ss node object 5 event)
-        (start_write ss node object start),
-    filter-append (is_to object 1) (time_write ss node object 3 inhibit) (time_write ss node object 5 event),
-    no_time_cobs ss node 3 inhibit refl,
-    no_time_cobs ss node 5 event refl,
-    no_start_cobs ss node start,
+  no_timing_cobs : (sheet : Sheet) (node inhibit event start : ℕ)
+      → filter (is_to object 1) (timing sheet node inhibit event start) ≡ []
+  no_timing_cobs sheet node inhibit event start = rw (
+    filter-append (is_to object 1) (time_write sheet node object 3 inhibit ++ time_write sheet node object 5 event)
+        (start_write sheet node object start),
+    filter-append (is_to object 1) (time_write sheet node object 3 inhibit) (time_write sheet node object 5 event),
+    no_time_cobs sheet node 3 inhibit refl,
+    no_time_cobs sheet node 5 event refl,
+    no_start_cobs sheet node start,
   ) refl
 
   -- the writes to the mapping object of a TPDO
-  tpdo_mapping : (ss : List Section) (node off type inhibit event start on : ℕ) (mapping : List Mapped)
+  tpdo_mapping : (sheet : Sheet) (node off type inhibit event start on : ℕ) (mapping : List Mapped)
       → to_object index (cob_write object off ∷ write_at object 2 (type ∷ [])
-      ∷ (timing ss node inhibit event start ++ mapping_writes index mapping
+      ∷ (timing sheet node inhibit event start ++ mapping_writes index mapping
       ++ cob_write object on ∷ [])) ≡ mapping_writes index mapping
-  tpdo_mapping ss node off type inhibit event start on mapping =
+  tpdo_mapping sheet node off type inhibit event start on mapping =
       rw (
         mapping_apart,
         filter-append (λ (w : Write). w.index == index)
-            (timing ss node inhibit event start ++ mapping_writes index mapping) (cob_write object on ∷ []),
-        filter-append (λ (w : Write). w.index == index) (timing ss node inhibit event start)
+            (timing sheet node inhibit event start ++ mapping_writes index mapping) (cob_write object on ∷ []),
+        filter-append (λ (w : Write). w.index == index) (timing sheet node inhibit event start)
             (mapping_writes index mapping),
-        no_timing ss node inhibit event start,
+        no_timing sheet node inhibit event start,
         all_mapping index mapping,
         mapping_apart,
       )
       (append_none (mapping_writes index mapping))
 
-  tpdo_meanwhile : (ss : List Section) (node off type inhibit event start on : ℕ) (mapping : List Mapped)
+  tpdo_meanwhile : (sheet : Sheet) (node off type inhibit event start on : ℕ) (mapping : List Mapped)
       → AreBetween (is_to object 1) (cob_write object off) (cob_write object on)
       (cob_write object off ∷ write_at object 2 (type ∷ [])
-      ∷ (timing ss node inhibit event start ++ mapping_writes index mapping ++ cob_write object on ∷ []))
-  tpdo_meanwhile ss node off type inhibit event start on mapping =
+      ∷ (timing sheet node inhibit event start ++ mapping_writes index mapping ++ cob_write object on ∷ []))
+  tpdo_meanwhile sheet node off type inhibit event start on mapping =
       between (is_to object 1) (cob_write object on) (same_number object) (cob_write object off)
-      (write_at object 2 (type ∷ []) ∷ (timing ss node inhibit event start ++ mapping_writes index mapping))
+      (write_at object 2 (type ∷ []) ∷ (timing sheet node inhibit event start ++ mapping_writes index mapping))
       (same_number object)
       (rw (
-        filter-append (is_to object 1) (timing ss node inhibit event start) (mapping_writes index mapping),
-        no_timing_cobs ss node inhibit event start,
+        filter-append (is_to object 1) (timing sheet node inhibit event start) (mapping_writes index mapping),
+        no_timing_cobs sheet node inhibit event start,
         no_cobs object index apart mapping,
       ) refl)
 
@@ -316,20 +316,20 @@ configured : (object off on identifier : ℕ) (mapping : List Mapped) (ws : List
 configured object off on identifier mapping ws meanwhile is_high fits is_low rest maps =
     (switched object off on identifier ws meanwhile is_high fits is_low rest, mapped_so object mapping ws maps)
 
-pub tpdo_configured : (ss : List Section) (node : ℕ) (c : Clean) → IsWithin c
-    → IsConfigured (tpdo_object c.message.tpdo) c.identifier c.mapping (tpdo_writes ss node c)
+pub tpdo_configured : (sheet : Sheet) (node : ℕ) (c : Clean) → IsWithin c
+    → IsConfigured (tpdo_object c.message.tpdo) c.identifier c.mapping (tpdo_writes sheet node c)
 unfolding tpdo_writes
-tpdo_configured ss node c within =
+tpdo_configured sheet node c within =
     let object : ℕ = tpdo_object c.message.tpdo in
     let id : c.identifier < 0x800 = within.identifier in
     let before : (object == mapping_object object) ≡ false = number_other object (mapping_object object) (omega arith) in
     let behind : (mapping_object object == object) ≡ false = other_number object (mapping_object object) (omega arith) in
     configured object (off_bit + (no_rtr_bit + c.identifier))
-    (no_rtr_bit + c.identifier) c.identifier c.mapping (tpdo_writes ss node c)
-    (tpdo_meanwhile object (mapping_object object) before behind ss node (off_bit + (no_rtr_bit + c.identifier))
+    (no_rtr_bit + c.identifier) c.identifier c.mapping (tpdo_writes sheet node c)
+    (tpdo_meanwhile object (mapping_object object) before behind sheet node (off_bit + (no_rtr_bit + c.identifier))
     c.message.transmission c.message.inhibit c.message.event c.start (no_rtr_bit + c.identifier) c.mapping)
     (omega arith) (omega arith) (omega arith) (omega arith)
-    (tpdo_mapping object (mapping_object object) before behind ss node (off_bit + (no_rtr_bit + c.identifier))
+    (tpdo_mapping object (mapping_object object) before behind sheet node (off_bit + (no_rtr_bit + c.identifier))
     c.message.transmission c.message.inhibit c.message.event c.start (no_rtr_bit + c.identifier) c.mapping)
 
 pub rpdo_configured : (c : Clean) (k : Consumer) → IsWithin c

@@ -10,8 +10,8 @@ use Rattle.byteorder.specs.Endian.{little_bytes}
 use Rattle.co_values.specs.declared.form.Width.TheVariants.{Bits8, Bits16}
 use Rattle.cia301.specs.CobIds.{no_rtr_bit, off_bit}
 use Rattle.concise_dcf.specs.declared.write.Write.{Write}
-use Rattle.ini_text.specs.Content.{Section}
 use Rattle.eds_device.specs.Entries.{entry_at}
+use Rattle.eds_device.specs.Sheets.{Sheet}
 use Rattle.pdo_choices.specs.declared.clean.Clean.{Clean}
 use Rattle.pdo_choices.specs.declared.consumer.Consumer.{Consumer}
 use Rattle.pdo_stations.specs.declared.mapped.Mapped.{Mapped}
@@ -32,16 +32,16 @@ byte_sized object sub n = (omega arith, omega arith)
 pub word_sized : (object sub n : ℕ) → IsSized (write_at object sub (little_bytes 4 n))
 word_sized object sub n = (omega arith, omega arith)
 
-time_held : (ss : List Section) (node object sub time : ℕ) → Holds 1 (time_write ss node object sub time)
-time_held ss node object sub time = by (option_map_or (takes_unsigned Bits16) (entry_at ss node object sub) false)
+time_held : (sheet : Sheet) (node object sub time : ℕ) → Holds 1 (time_write sheet node object sub time)
+time_held sheet node object sub time = by (option_map_or (takes_unsigned Bits16) (entry_at sheet node object sub) false)
   where
     by : (b : Bool) → let ws : List Write = if b then write_at object sub (little_bytes 2 time) ∷ [] else []
         in Holds 1 ws
     by true = holds_one 0 (write_at object sub (little_bytes 2 time)) [] (omega arith, omega arith) holds_none
     by false = at_most 0 1 [] (omega arith) holds_none
 
-start_held : (ss : List Section) (node object start : ℕ) → Holds 1 (start_write ss node object start)
-start_held ss node object start = by (option_map_or (takes_unsigned Bits8) (entry_at ss node object 6) false)
+start_held : (sheet : Sheet) (node object start : ℕ) → Holds 1 (start_write sheet node object start)
+start_held sheet node object start = by (option_map_or (takes_unsigned Bits8) (entry_at sheet node object 6) false)
   where
     by : (b : Bool) → let ws : List Write = if b then write_at object 6 (start ∷ []) ∷ [] else [] in Holds 1 ws
     by true = holds_one 0 (write_at object 6 (start ∷ [])) [] (byte_sized object 6 start) holds_none
@@ -63,13 +63,13 @@ mapping_held object mapping short =
     (entries_held object 1 mapping)
     (holds_one 0 (write_at object 0 (length mapping ∷ [])) [] (byte_sized object 0 (length mapping)) holds_none)))
 
-tpdo_held : (ss : List Section) (node : ℕ) (c : Clean) → length c.mapping ≤ 64 → Holds 72 (tpdo_writes ss node c)
+tpdo_held : (sheet : Sheet) (node : ℕ) (c : Clean) → length c.mapping ≤ 64 → Holds 72 (tpdo_writes sheet node c)
 unfolding tpdo_writes
-tpdo_held ss node c short =
+tpdo_held sheet node c short =
     let object : ℕ = tpdo_object c.message.tpdo in
-    let inhibit : List Write = time_write ss node object 3 c.message.inhibit in
-    let event : List Write = time_write ss node object 5 c.message.event in
-    let start : List Write = start_write ss node object c.start in
+    let inhibit : List Write = time_write sheet node object 3 c.message.inhibit in
+    let event : List Write = time_write sheet node object 5 c.message.event in
+    let start : List Write = start_write sheet node object c.start in
     holds_one 71 (cob_write object (off_bit + (no_rtr_bit + c.identifier))) _
     (word_sized object 1 (off_bit + (no_rtr_bit + c.identifier)))
     (holds_one 70 (write_at object 2 (c.message.transmission ∷ [])) _ (byte_sized object 2 c.message.transmission)
@@ -77,8 +77,8 @@ tpdo_held ss node c short =
     (cob_write object (no_rtr_bit + c.identifier) ∷ [])
     (holds_both 3 66 (inhibit ++ event ++ start) (mapping_writes (mapping_object object) c.mapping)
     (holds_both 2 1 (inhibit ++ event) start
-    (holds_both 1 1 inhibit event (time_held ss node object 3 c.message.inhibit)
-    (time_held ss node object 5 c.message.event)) (start_held ss node object c.start))
+    (holds_both 1 1 inhibit event (time_held sheet node object 3 c.message.inhibit)
+    (time_held sheet node object 5 c.message.event)) (start_held sheet node object c.start))
     (mapping_held (mapping_object object) c.mapping short))
     (holds_one 0 (cob_write object (no_rtr_bit + c.identifier)) [] (word_sized object 1 (no_rtr_bit + c.identifier))
     holds_none)))
@@ -107,10 +107,10 @@ few : {Y : Type 0} (f : Y → List Write) (pdos : List (ℕ × Y))
 unfolding by_number each_by_number
 few f pdos each = each_few f (λ number. []) pdos each (λ number. nothing_held)
 
-pub few_tpdos : (ss : List Section) (node : ℕ) (pdos : List (ℕ × Clean))
+pub few_tpdos : (sheet : Sheet) (node : ℕ) (pdos : List (ℕ × Clean))
     → ((number : ℕ) (c : Clean) → lookup (is_at (nat_cmp number)) pdos ≡ Some c → length c.mapping ≤ 64)
-    → AreFew (by_number (tpdo_writes ss node) pdos)
-few_tpdos ss node pdos short = few (tpdo_writes ss node) pdos (λ number c is. tpdo_held ss node c (short number c is))
+    → AreFew (by_number (tpdo_writes sheet node) pdos)
+few_tpdos sheet node pdos short = few (tpdo_writes sheet node) pdos (λ number c is. tpdo_held sheet node c (short number c is))
 
 pub few_rpdos : (pdos : List (ℕ × (Clean × Consumer)))
     → ((number : ℕ) (t : Clean × Consumer) → lookup (is_at (nat_cmp number)) pdos ≡ Some t → length t.1.mapping ≤ 64)

@@ -1,12 +1,17 @@
 -- Tables of PDOs: what a list has first at each number.
-use Rattle.std.proofs.Common.{◌≡◌, ℕ, ◌+◌, ◌<◌, Bool, true, false, cond, List, [], ◌∷◌, ◌++◌, length, take, get_or}
-use Rattle.std.proofs.Common.{Option, Some, None, option_map, refl, sym, ap, ◌∙◌}
+use Rattle.std.proofs.Common.{◌≡◌, ℕ, ◌+◌, ◌<◌, ◌≤◌, Bool, true, false, cond, List, [], ◌∷◌, ◌++◌, length, take}
+use Rattle.std.proofs.Common.{get_or, Option, Some, None, option_map, IsSome, refl, sym, subst, ap, ◌∙◌, arith}
 use Rattle.std.specs.Prelude.{◌==◌, filter_map, if◌then◌else◌, option_and_then}
-use Rattle.std.specs.BTreeMap.{is_at}
+use Rattle.std.specs.BTreeMap.{is_at, BTreeMap}
+use Rattle.std.specs.BTreeMap.Range.{IsRangeOf}
+use Rattle.std.specs.declared.cmp.Ordering.{Ordering}
+use Rattle.std.specs.declared.cmp.Ordering.TheVariants.{Less, Equal, Greater}
+use Rattle.std.specs.declared.ops.Bound.TheVariants.{Included, Unbounded}
 use Rattle.std.specs.List.{cons_option, find}
 use Rattle.std.specs.Map.{lookup}
 use Rattle.std.specs.Option.{option_or}
-use Rattle.std.specs.Ordering.{nat_cmp}
+use Rattle.std.specs.Ordering.{is_gt, nat_cmp}
+use Rattle.std.proofs.lemmas.Cmp.{ranked}
 use Rattle.std.proofs.lemmas.List.{take_more}
 use Rattle.std.proofs.lemmas.List.Elements.{filter_map-append}
 use Rattle.pdo_choices.specs.declared.clean.Clean.{Clean}
@@ -118,3 +123,45 @@ pub rpdo_had : (node : ℕ) (o : Outcome) (c : Clean) (k : Consumer) → o ≡ P
 rpdo_had node o c k is found =
     ap (option_map (λ (k : Consumer). (k.rpdo, (c, k)))) found
     ∙ ap (λ (p : Outcome). option_and_then (rpdo_of node) (clean_of p)) (sym is)
+
+-- ---- the next one that a table has
+
+at_or_before : (a b : ℕ) → a ≤ b → is_gt (nat_cmp a b) ≡ false
+at_or_before a b le = by (nat_cmp a b) refl
+  where
+    by : (r : Ordering) → r ≡ nat_cmp a b → is_gt r ≡ false
+    by Less is = refl
+    by Equal is = refl
+    by Greater is = let lt : b < a = ranked a b Greater is in absurd (omega arith)
+
+not_after : (a b : ℕ) (r : Ordering) → r ≡ nat_cmp a b → is_gt r ≡ false → a ≤ b
+not_after a b Less is h = let lt : a < b = ranked a b Less is in omega arith
+not_after a b Equal is h = let same : a ≡ b = ranked a b Equal is in omega arith
+not_after a b Greater is h = cc
+
+module _ {X : Type 0} (m : BTreeMap ℕ X) (from : ℕ) where
+  abbrev pub IsRest : List (ℕ × X) → Type 0
+  IsRest rest = IsRangeOf nat_cmp (Included from) Unbounded m rest
+
+  -- the first entry from a number on is at that number or behind it
+  pub first_from : (rest after : List (ℕ × X)) (e : ℕ × X) → IsRest rest → rest ≡ e ∷ after → from ≤ e.0
+  first_from rest after e range steps =
+      let whole : IsRest (e ∷ after) = subst IsRest steps range in
+      not_after from e.0 (nat_cmp from e.0) refl whole.1.0.0
+
+  -- and no number between has an entry
+  pub none_before : (rest after : List (ℕ × X)) (e : ℕ × X) → IsRest rest → rest ≡ e ∷ after → (number : ℕ)
+      → from ≤ number → number < e.0 → lookup (is_at (nat_cmp number)) m.entries ≡ None
+  none_before rest after e range steps number low below = by (lookup (is_at (nat_cmp number)) m.entries) refl
+    where
+      by : (o : Option X) → lookup (is_at (nat_cmp number)) m.entries ≡ o → let none : Option X = None in o ≡ none
+      by None is = refl
+      by (Some x) is =
+          let whole : IsRest (e ∷ after) = subst IsRest steps range in
+          let behind : e.0 ≤ number = not_after e.0 number (nat_cmp e.0 number) refl
+          (whole.2 number (at_or_before from number low, tt) (subst IsSome (sym is) refl)) in
+          absurd (omega arith)
+
+  pub none_from : (rest : List (ℕ × X)) → IsRest rest → rest ≡ [] → (number : ℕ) → from ≤ number
+      → lookup (is_at (nat_cmp number)) m.entries ≡ None
+  none_from rest range none number low = range.5 none number (at_or_before from number low, tt)

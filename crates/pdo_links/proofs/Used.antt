@@ -1,5 +1,5 @@
 -- The PDOs of a node that messages use.
-use Rattle.std.proofs.Common.{◌≡◌, ℕ, List, All, Option, Some, None, refl, sym}
+use Rattle.std.proofs.Common.{◌≡◌, ℕ, List, [], All, Option, Some, None, refl, sym}
 use Rattle.std.specs.Prelude.{filter_map, option_map, IfSome, OnOk, Result, Ok, Err}
 use Rattle.std.specs.Borrow.{Bor}
 use Rattle.std.specs.BTreeMap.{is_at}
@@ -7,17 +7,26 @@ use Rattle.std.specs.Map.{lookup}
 use Rattle.std.specs.Option.{option_copied, option_map_or}
 use Rattle.std.specs.Ordering.{nat_cmp}
 use Rattle.std.proofs.lemmas.List.Elements.{All-contains}
+use Rattle.co_dict.specs.Shapes.{HasIndex}
+use Rattle.pdo_stations.specs.declared.as_made.AsMade.{AsMade}
+use Rattle.vendor_pdos.proofs.PresentLemmas.{no_entry}
 use Rattle.pdo_choices.specs.declared.clean.Clean.{Clean}
 use Rattle.pdo_choices.specs.declared.consumer.Consumer.{Consumer}
 use Rattle.pdo_choices.specs.Limits.{IsNumbered, IsWithin}
 use Rattle.pdo_links.specs.declared.taken.Taken.{Taken}
 use Rattle.pdo_links.specs.PdoWrites.{rpdo_of, tpdo_of}
+use Rattle.pdo_links.specs.VendorWrites.{unused_writes}
 use Rattle.pdo_links.proofs.Numbered.{sends, takes, Takes}
 
 -- what holds anyway holds where a call passes
 pub anyway : {T E P : Type 0} (r : Result T E) → P → OnOk r P
 anyway (Ok x) p = p
 anyway (Err e) p = tt
+
+-- of a PDO that the device hasn't nothing is written
+pub no_unused : (device : AsMade) (object : ℕ) → (HasIndex device.shape object → ⊥) → unused_writes device object ≡ []
+unfolding unused_writes
+no_unused device object none = rw (no_entry device object none 1) refl
 
 -- what is made of a shown value
 pub of_shown : {X Y Z : Type 0} (shows : X → Y) (f : Y → Z) (other : Z) (o : Option X)

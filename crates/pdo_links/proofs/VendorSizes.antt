@@ -7,7 +7,7 @@ use Rattle.std.specs.Map.{lookup}
 use Rattle.std.specs.Ordering.{nat_cmp}
 use Rattle.byteorder.specs.Endian.{little_bytes}
 use Rattle.co_values.specs.declared.form.Width.{Width}
-use Rattle.co_values.specs.declared.form.Width.TheVariants.{Bits8, Bits16, Bits32, Bits64}
+use Rattle.co_values.specs.declared.form.Width.TheVariants.{Bits8, Bits16, Bits24, Bits32, Bits40, Bits48, Bits56, Bits64}
 use Rattle.co_values.specs.Types.{octets}
 use Rattle.cia301.specs.CobIds.{is_valid, no_rtr_bit, off_bit}
 use Rattle.cia301.specs.PdoObjects.{mapping_object, rpdo_object, tpdo_object}
@@ -29,7 +29,11 @@ use Rattle.pdo_links.proofs.Sizes.{mapping_held, word_sized}
 number_sized : (object sub number : ℕ) (width : Width) → IsSized (write_at object sub (little_bytes (octets width) number))
 number_sized object sub number Bits8 = (omega arith, omega arith)
 number_sized object sub number Bits16 = (omega arith, omega arith)
+number_sized object sub number Bits24 = (omega arith, omega arith)
 number_sized object sub number Bits32 = (omega arith, omega arith)
+number_sized object sub number Bits40 = (omega arith, omega arith)
+number_sized object sub number Bits48 = (omega arith, omega arith)
+number_sized object sub number Bits56 = (omega arith, omega arith)
 number_sized object sub number Bits64 = (omega arith, omega arith)
 
 parameter_held : (device : AsMade) (object sub number : ℕ) → Holds 1 (parameter_write device object sub number)

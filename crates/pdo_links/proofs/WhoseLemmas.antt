@@ -11,10 +11,10 @@ use Rattle.std.specs.Ordering.{nat_cmp}
 use Rattle.std.proofs.lemmas.Bool.{cases_eq}
 use Rattle.std.proofs.lemmas.Map.Views.{exact_unsigned_eq}
 use Rattle.concise_dcf.specs.declared.write.Write.{Write}
-use Rattle.ini_text.specs.Content.{Section}
 use Rattle.base.specs.Ranges.{is_between}
 use Rattle.cia301.specs.PdoObjects.{is_of_pdos}
 use Rattle.std.specs.FinMap.{get}
+use Rattle.eds_device.specs.Sheets.{Sheet}
 use Rattle.node_parameters.specs.Params.{Texts}
 use Rattle.node_parameters.specs.Parameters.{parameter_text, parameter_writes}
 use Rattle.concise_dcf.specs.Writes.{place_of}
@@ -71,10 +71,10 @@ module _ {Y : Type 0} (f : Y → List Write) where
 
 -- ---- whose
 
-pub of_tpdos : (cs : List Clean) (ss : List Section) (node : ℕ) (w : Write)
-    → Contains (by_number (tpdo_writes ss node) (filter_map (tpdo_of node) cs)) w → IsOfSent cs ss node w
-of_tpdos cs ss node w has =
-    let b : Behind (tpdo_writes ss node) (filter_map (tpdo_of node) cs) w = behind_number (tpdo_writes ss node)
+pub of_tpdos : (cs : List Clean) (sheet : Sheet) (node : ℕ) (w : Write)
+    → Contains (by_number (tpdo_writes sheet node) (filter_map (tpdo_of node) cs)) w → IsOfSent cs sheet node w
+of_tpdos cs sheet node w has =
+    let b : Behind (tpdo_writes sheet node) (filter_map (tpdo_of node) cs) w = behind_number (tpdo_writes sheet node)
     (filter_map (tpdo_of node) cs) w has in
     let s : Sends cs node b.0 b.1.0 = sends cs node b.0 b.1.0 b.1.1 in
     (b.1.0, s.message, s.sender, b.1.2)
@@ -88,27 +88,27 @@ of_rpdos cs node w has =
     let t : Takes cs node b.0 b.1.0 = takes cs node b.0 b.1.0 b.1.1 in
     (b.1.0.0, t.message, (b.1.0.1, t.consumer, t.taker, b.1.2))
 
-pub of_messages : (plan : List PlannedMessage) (params : Texts) (ss : List Section) (node : ℕ) (w : Write)
+pub of_messages : (plan : List PlannedMessage) (params : Texts) (sheet : Sheet) (node : ℕ) (w : Write)
     → ((place : ℕ × ℕ) → is_of_pdos place.0 ≡ true → get params place ≡ None)
-    → Contains (node_writes false plan params ss node) w → is_of_pdos w.index ≡ true
-    → IsOfSent (clean plan) ss node w ⊎ IsOfTaken (clean plan) node w
+    → Contains (node_writes false plan params sheet node) w → is_of_pdos w.index ≡ true
+    → IsOfSent (clean plan) sheet node w ⊎ IsOfTaken (clean plan) node w
 unfolding node_writes set_link_writes
-of_messages plan params ss node w apart has pdo =
-    ⊎_elim parameter links (of_either (parameter_writes ss params node) (set_link_writes plan ss node) w has)
+of_messages plan params sheet node w apart has pdo =
+    ⊎_elim parameter links (of_either (parameter_writes sheet params node) (set_link_writes plan sheet node) w has)
   where
-    parameter : Contains (parameter_writes ss params node) w
-        → IsOfSent (clean plan) ss node w ⊎ IsOfTaken (clean plan) node w
+    parameter : Contains (parameter_writes sheet params node) w
+        → IsOfSent (clean plan) sheet node w ⊎ IsOfTaken (clean plan) node w
     parameter there =
-        let text : (text : List ℕ) × (parameter_text ss params (place_of w) ≡ Some text)
-        × _ = nothing_else ss params node w there in
-        let none : parameter_text ss params (place_of w) ≡ None = pdo_text ss params (place_of w)
+        let text : (text : List ℕ) × (parameter_text sheet.sections params (place_of w) ≡ Some text)
+        × _ = nothing_else sheet params node w there in
+        let none : parameter_text sheet.sections params (place_of w) ≡ None = pdo_text sheet params (place_of w)
         (apart (place_of w) pdo) pdo in
         let contrary : (let n : Option (List ℕ) = None in n ≡ Some text.0) = sym none ∙ text.1 in
         cc
 
-    links : Contains (set_link_writes plan ss node) w → IsOfSent (clean plan) ss node w ⊎ IsOfTaken (clean plan) node w
-    links there = ⊎_elim (λ h. inl (of_tpdos (clean plan) ss node w h)) (λ h. inr (of_rpdos (clean plan) node w h))
-        (of_either (by_number (tpdo_writes ss node) (filter_map (tpdo_of node) (clean plan)))
+    links : Contains (set_link_writes plan sheet node) w → IsOfSent (clean plan) sheet node w ⊎ IsOfTaken (clean plan) node w
+    links there = ⊎_elim (λ h. inl (of_tpdos (clean plan) sheet node w h)) (λ h. inr (of_rpdos (clean plan) node w h))
+        (of_either (by_number (tpdo_writes sheet node) (filter_map (tpdo_of node) (clean plan)))
         (by_number (λ (t : Clean × Consumer). rpdo_writes t.0 t.1)
         (filter_map (rpdo_of node) (clean plan))) w there)
 
@@ -140,19 +140,19 @@ no_rpdo node c other = by (find (λ (k : Consumer). k.node == node) c.consumers)
         × ((k.node == node) ≡ true) = found (λ (k : Consumer). k.node == node) c.consumers k is
         in absurd (other k f.0 (exact_unsigned_eq k.node node f.1))
 
-pub parameters_alone : (plan : List PlannedMessage) (params : Texts) (ss : List Section) (node : ℕ)
+pub parameters_alone : (plan : List PlannedMessage) (params : Texts) (sheet : Sheet) (node : ℕ)
     → IsNamedByNone (clean plan) node
-    → node_writes false plan params ss node ≡ parameter_writes ss params node
+    → node_writes false plan params sheet node ≡ parameter_writes sheet params node
 unfolding node_writes set_link_writes
-parameters_alone plan params ss node none =
-    let tpdos : by_number (tpdo_writes ss node) (filter_map (tpdo_of node) (clean plan)) ≡ [] =
-    none_by_number (tpdo_writes ss node) (filter_map (tpdo_of node) (clean plan))
+parameters_alone plan params sheet node none =
+    let tpdos : by_number (tpdo_writes sheet node) (filter_map (tpdo_of node) (clean plan)) ≡ [] =
+    none_by_number (tpdo_writes sheet node) (filter_map (tpdo_of node) (clean plan))
     (none_given (tpdo_of node) (clean plan) (λ c has. no_tpdo node c (none c has).0)) in
     let rpdos : by_number (λ (t : Clean × Consumer). rpdo_writes t.0 t.1) (filter_map (rpdo_of node) (clean plan))
     ≡ [] =
     none_by_number (λ (t : Clean × Consumer). rpdo_writes t.0 t.1) (filter_map (rpdo_of node) (clean plan))
     (none_given (rpdo_of node) (clean plan) (λ c has. no_rpdo node c (none c has).1)) in
-    rw (tpdos, rpdos) (append_none (parameter_writes ss params node))
+    rw (tpdos, rpdos) (append_none (parameter_writes sheet params node))
 
 -- ---- nothing is missing
 
@@ -232,22 +232,22 @@ sent_found cs node c sent =
     same_number : (m n : ℕ) → m ≡ n → (m == n) ≡ true
     same_number m n e = grind arith
 
-pub sent_at : (cs : List Clean) (ss : List Section) (node : ℕ) (c : Clean) → IsSentAlone cs node c
-    → at_number (tpdo_writes ss node) (filter_map (tpdo_of node) cs) c.message.tpdo ≡ tpdo_writes ss node c
-sent_at cs ss node c sent = ap (λ (o : Option Clean). option_map_or (tpdo_writes ss node) o []) (sent_found cs node c sent)
+pub sent_at : (cs : List Clean) (sheet : Sheet) (node : ℕ) (c : Clean) → IsSentAlone cs node c
+    → at_number (tpdo_writes sheet node) (filter_map (tpdo_of node) cs) c.message.tpdo ≡ tpdo_writes sheet node c
+sent_at cs sheet node c sent = ap (λ (o : Option Clean). option_map_or (tpdo_writes sheet node) o []) (sent_found cs node c sent)
 
-pub sent_written : (plan : List PlannedMessage) (params : Texts) (ss : List Section) (node : ℕ) (c : Clean) (w : Write)
-    → IsSentAlone (clean plan) node c → Contains (tpdo_writes ss node c) w
-    → Contains (node_writes false plan params ss node) w
+pub sent_written : (plan : List PlannedMessage) (params : Texts) (sheet : Sheet) (node : ℕ) (c : Clean) (w : Write)
+    → IsSentAlone (clean plan) node c → Contains (tpdo_writes sheet node c) w
+    → Contains (node_writes false plan params sheet node) w
 unfolding node_writes set_link_writes
-sent_written plan params ss node c w sent has =
+sent_written plan params sheet node c w sent has =
     let pdos : List (ℕ × Clean) = filter_map (tpdo_of node) (clean plan) in
-    let f : Clean → List Write = tpdo_writes ss node in
-    in_second (parameter_writes ss params node) (set_link_writes plan ss node) w
+    let f : Clean → List Write = tpdo_writes sheet node in
+    in_second (parameter_writes sheet params node) (set_link_writes plan sheet node) w
     (in_first (by_number f pdos) (by_number (λ (t : Clean × Consumer). rpdo_writes t.0 t.1)
     (filter_map (rpdo_of node) (clean plan))) w
     (in_numbers f pdos c.message.tpdo w (subst (λ (ws : List Write). Contains ws w)
-    (sym (sent_at (clean plan) ss node c sent)) has) sent.numbered))
+    (sym (sent_at (clean plan) sheet node c sent)) has) sent.numbered))
 
 -- the consumer that is a node is found
 node_found : (node : ℕ) (ks : List Consumer) (k : Consumer) → Contains ks k → k.node ≡ node
@@ -293,14 +293,14 @@ taken_at cs node c k taken =
     ap (λ (o : Option (Clean × Consumer)). option_map_or (λ (t : Clean × Consumer). rpdo_writes t.0 t.1) o [])
     (taken_found cs node c k taken)
 
-pub taken_written : (plan : List PlannedMessage) (params : Texts) (ss : List Section) (node : ℕ) (c : Clean)
+pub taken_written : (plan : List PlannedMessage) (params : Texts) (sheet : Sheet) (node : ℕ) (c : Clean)
     (k : Consumer) (w : Write)
-    → IsTakenAlone (clean plan) node c k → Contains (rpdo_writes c k) w → Contains (node_writes false plan params ss node) w
+    → IsTakenAlone (clean plan) node c k → Contains (rpdo_writes c k) w → Contains (node_writes false plan params sheet node) w
 unfolding node_writes set_link_writes
-taken_written plan params ss node c k w taken has =
+taken_written plan params sheet node c k w taken has =
     let pdos : List (ℕ × (Clean × Consumer)) = filter_map (rpdo_of node) (clean plan) in
     let f : Clean × Consumer → List Write = λ (t : Clean × Consumer). rpdo_writes t.0 t.1 in
-    in_second (parameter_writes ss params node) (set_link_writes plan ss node) w
-    (in_second (by_number (tpdo_writes ss node) (filter_map (tpdo_of node) (clean plan))) (by_number f pdos) w
+    in_second (parameter_writes sheet params node) (set_link_writes plan sheet node) w
+    (in_second (by_number (tpdo_writes sheet node) (filter_map (tpdo_of node) (clean plan))) (by_number f pdos) w
     (in_numbers f pdos k.rpdo w (subst (λ (ws : List Write). Contains ws w)
     (sym (taken_at (clean plan) node c k taken)) has) taken.numbered))

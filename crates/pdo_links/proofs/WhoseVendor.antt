@@ -11,9 +11,9 @@ use Rattle.std.specs.Ordering.{nat_cmp}
 use Rattle.std.proofs.lemmas.Bool.{cases_eq}
 use Rattle.concise_dcf.specs.declared.write.Write.{Write}
 use Rattle.concise_dcf.specs.Writes.{place_of}
-use Rattle.ini_text.specs.Content.{Section}
 use Rattle.cia301.specs.Limits.{is_pdo_number}
 use Rattle.cia301.specs.PdoObjects.{is_of_pdos, rpdo_object, tpdo_object}
+use Rattle.eds_device.specs.Sheets.{Sheet}
 use Rattle.node_parameters.specs.Params.{Texts}
 use Rattle.node_parameters.specs.Parameters.{parameter_text, parameter_writes}
 use Rattle.node_parameters.proofs.ParameterLemmas.{nothing_else, pdo_text}
@@ -138,58 +138,58 @@ module _ (cs : List Clean) (device : AsMade) (node : ℕ) (w : Write) where
       (of_numbers (λ (t : Clean × Consumer). vendor_rpdo_writes device t.0 t.1)
       (λ number. unused_writes device (rpdo_object number)) (filter_map (rpdo_of node) cs) w has)
 
-pub of_vendor_pdos : (plan : List PlannedMessage) (params : Texts) (ss : List Section) (node : ℕ) (w : Write)
+pub of_vendor_pdos : (plan : List PlannedMessage) (params : Texts) (sheet : Sheet) (node : ℕ) (w : Write)
     → ((place : ℕ × ℕ) → is_of_pdos place.0 ≡ true → get params place ≡ None)
-    → Contains (node_writes true plan params ss node) w → is_of_pdos w.index ≡ true
-    → IsOfThree (clean plan) (as_made ss node) node w
+    → Contains (node_writes true plan params sheet node) w → is_of_pdos w.index ≡ true
+    → IsOfThree (clean plan) (as_made sheet node) node w
 unfolding node_writes vendor_link_writes
-of_vendor_pdos plan params ss node w apart has pdo =
+of_vendor_pdos plan params sheet node w apart has pdo =
     ⊎_elim parameter links
-    (of_either (parameter_writes ss params node) (vendor_link_writes plan (as_made ss node) node) w has)
+    (of_either (parameter_writes sheet params node) (vendor_link_writes plan (as_made sheet node) node) w has)
   where
-    parameter : Contains (parameter_writes ss params node) w → IsOfThree (clean plan) (as_made ss node) node w
+    parameter : Contains (parameter_writes sheet params node) w → IsOfThree (clean plan) (as_made sheet node) node w
     parameter there =
-        let text : (text : List ℕ) × (parameter_text ss params (place_of w) ≡ Some text)
-        × _ = nothing_else ss params node w there in
-        let none : parameter_text ss params (place_of w) ≡ None = pdo_text ss params (place_of w)
+        let text : (text : List ℕ) × (parameter_text sheet.sections params (place_of w) ≡ Some text)
+        × _ = nothing_else sheet params node w there in
+        let none : parameter_text sheet.sections params (place_of w) ≡ None = pdo_text sheet params (place_of w)
         (apart (place_of w) pdo) pdo in
         let contrary : (let n : Option (List ℕ) = None in n ≡ Some text.0) = sym none ∙ text.1 in
         cc
 
-    links : Contains (vendor_link_writes plan (as_made ss node) node) w
-        → IsOfThree (clean plan) (as_made ss node) node w
-    links there = ⊎_elim (of_tpdos (clean plan) (as_made ss node) node w)
-        (of_rpdos (clean plan) (as_made ss node) node w)
-        (of_either (each_by_number (vendor_tpdo_writes (as_made ss node))
-        (λ number. unused_writes (as_made ss node) (tpdo_object number)) (filter_map (tpdo_of node) (clean plan)))
-        (each_by_number (λ (t : Clean × Consumer). vendor_rpdo_writes (as_made ss node) t.0 t.1)
-        (λ number. unused_writes (as_made ss node) (rpdo_object number)) (filter_map (rpdo_of node) (clean plan)))
+    links : Contains (vendor_link_writes plan (as_made sheet node) node) w
+        → IsOfThree (clean plan) (as_made sheet node) node w
+    links there = ⊎_elim (of_tpdos (clean plan) (as_made sheet node) node w)
+        (of_rpdos (clean plan) (as_made sheet node) node w)
+        (of_either (each_by_number (vendor_tpdo_writes (as_made sheet node))
+        (λ number. unused_writes (as_made sheet node) (tpdo_object number)) (filter_map (tpdo_of node) (clean plan)))
+        (each_by_number (λ (t : Clean × Consumer). vendor_rpdo_writes (as_made sheet node) t.0 t.1)
+        (λ number. unused_writes (as_made sheet node) (rpdo_object number)) (filter_map (rpdo_of node) (clean plan)))
         w there)
 
 -- ---- nothing is missing
 
-module _ (plan : List PlannedMessage) (params : Texts) (ss : List Section) (node : ℕ) (w : Write) where
+module _ (plan : List PlannedMessage) (params : Texts) (sheet : Sheet) (node : ℕ) (w : Write) where
   abbrev device : AsMade
-  device = as_made ss node
+  device = as_made sheet node
 
   abbrev tpdos : List Write
-  tpdos = each_by_number (vendor_tpdo_writes (as_made ss node))
-      (λ number. unused_writes (as_made ss node) (tpdo_object number)) (filter_map (tpdo_of node) (clean plan))
+  tpdos = each_by_number (vendor_tpdo_writes (as_made sheet node))
+      (λ number. unused_writes (as_made sheet node) (tpdo_object number)) (filter_map (tpdo_of node) (clean plan))
 
   abbrev rpdos : List Write
-  rpdos = each_by_number (λ (t : Clean × Consumer). vendor_rpdo_writes (as_made ss node) t.0 t.1)
-      (λ number. unused_writes (as_made ss node) (rpdo_object number)) (filter_map (rpdo_of node) (clean plan))
+  rpdos = each_by_number (λ (t : Clean × Consumer). vendor_rpdo_writes (as_made sheet node) t.0 t.1)
+      (λ number. unused_writes (as_made sheet node) (rpdo_object number)) (filter_map (rpdo_of node) (clean plan))
 
-  in_tpdos : Contains tpdos w → Contains (node_writes true plan params ss node) w
+  in_tpdos : Contains tpdos w → Contains (node_writes true plan params sheet node) w
   unfolding node_writes vendor_link_writes
-  in_tpdos has = in_second (parameter_writes ss params node) (tpdos ++ rpdos) w (in_first tpdos rpdos w has)
+  in_tpdos has = in_second (parameter_writes sheet params node) (tpdos ++ rpdos) w (in_first tpdos rpdos w has)
 
-  in_rpdos : Contains rpdos w → Contains (node_writes true plan params ss node) w
+  in_rpdos : Contains rpdos w → Contains (node_writes true plan params sheet node) w
   unfolding node_writes vendor_link_writes
-  in_rpdos has = in_second (parameter_writes ss params node) (tpdos ++ rpdos) w (in_second tpdos rpdos w has)
+  in_rpdos has = in_second (parameter_writes sheet params node) (tpdos ++ rpdos) w (in_second tpdos rpdos w has)
 
   pub vendor_sent_written : (c : Clean) → IsSentAlone (clean plan) node c
-      → Contains (vendor_tpdo_writes (as_made ss node) c) w → Contains (node_writes true plan params ss node) w
+      → Contains (vendor_tpdo_writes (as_made sheet node) c) w → Contains (node_writes true plan params sheet node) w
   vendor_sent_written c sent has =
       in_tpdos (in_all (vendor_tpdo_writes device) (λ number. unused_writes device (tpdo_object number))
       (filter_map (tpdo_of node) (clean plan)) w c.message.tpdo sent.numbered
@@ -197,7 +197,7 @@ module _ (plan : List PlannedMessage) (params : Texts) (ss : List Section) (node
       (unused_writes device (tpdo_object c.message.tpdo))) w) (sym (sent_found (clean plan) node c sent)) has))
 
   pub vendor_taken_written : (c : Clean) (k : Consumer) → IsTakenAlone (clean plan) node c k
-      → Contains (vendor_rpdo_writes (as_made ss node) c k) w → Contains (node_writes true plan params ss node) w
+      → Contains (vendor_rpdo_writes (as_made sheet node) c k) w → Contains (node_writes true plan params sheet node) w
   vendor_taken_written c k taken has =
       in_rpdos (in_all (λ (t : Clean × Consumer). vendor_rpdo_writes device t.0 t.1)
       (λ number. unused_writes device (rpdo_object number))
@@ -206,7 +206,7 @@ module _ (plan : List PlannedMessage) (params : Texts) (ss : List Section) (node
       (λ (t : Clean × Consumer). vendor_rpdo_writes device t.0 t.1) o
       (unused_writes device (rpdo_object k.rpdo))) w) (sym (taken_found (clean plan) node c k taken)) has))
 
-  pub unused_written : IsOfUnused (clean plan) (as_made ss node) node w → Contains (node_writes true plan params ss node) w
+  pub unused_written : IsOfUnused (clean plan) (as_made sheet node) node w → Contains (node_writes true plan params sheet node) w
   unused_written (number, test, inl (none, has)) =
       in_tpdos (in_all (vendor_tpdo_writes device) (λ number. unused_writes device (tpdo_object number))
       (filter_map (tpdo_of node) (clean plan)) w number test

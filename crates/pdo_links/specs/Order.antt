@@ -4,7 +4,7 @@ use Rattle.std.specs.Prelude.{filter, Contains, Option, Some, IsTrue, IsFalse}
 use Rattle.byteorder.specs.Endian.{little_number}
 use Rattle.cia301.specs.CobIds.{identifier_in, is_valid, off_bit}
 use Rattle.concise_dcf.specs.declared.write.Write.{Write}
-use Rattle.ini_text.specs.Content.{Section}
+use Rattle.eds_device.specs.Sheets.{Sheet}
 use Rattle.pdo_choices.specs.declared.clean.Clean.{Clean}
 use Rattle.pdo_choices.specs.declared.consumer.Consumer.{Consumer}
 use Rattle.pdo_stations.specs.declared.mapped.Mapped.{Mapped}
@@ -82,8 +82,8 @@ TurnsOff device object w = IsTrue (is_to object 1 w) × IsTrue (is_off w)
 -- ---- whose writes
 
 -- a write of the TPDO by which a node sends one of the messages
-abbrev pub IsOfSent : List Clean → List Section → ℕ → Write → Type 0
-IsOfSent cs ss node w = (c : Clean) × Contains cs c × (c.message.node ≡ node) × Contains (tpdo_writes ss node c) w
+abbrev pub IsOfSent : List Clean → Sheet → ℕ → Write → Type 0
+IsOfSent cs sheet node w = (c : Clean) × Contains cs c × (c.message.node ≡ node) × Contains (tpdo_writes sheet node c) w
 
 -- a write of the RPDO by which a node takes one of them
 abbrev pub IsOfTaken : List Clean → ℕ → Write → Type 0

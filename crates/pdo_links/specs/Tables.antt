@@ -7,7 +7,7 @@ use Rattle.base.specs.Bytes.{AreBytes}
 use Rattle.co_values.specs.Values.{Fits}
 use Rattle.concise_dcf.specs.declared.write.Write.{Write}
 use Rattle.eds_device.specs.Described.{kind_at}
-use Rattle.ini_text.specs.Content.{Section}
+use Rattle.eds_device.specs.Sheets.{Sheet}
 use Rattle.pdo_stations.specs.declared.mapped.Mapped.{Mapped}
 use Rattle.pdo_plan.specs.Mapping.{mapped_bytes}
 use Rattle.concise_dcf.specs.Writes.{IsSized}
@@ -22,8 +22,8 @@ unfoldable pub AreMapped : List Mapped → Type 0
 AreMapped mapping = All (λ m. AreBytes (mapped_bytes m)) mapping
 
 -- each write is a value of its entry
-unfoldable pub AreValues : List Section → List Write → Type 0
-AreValues ss ws = All (λ w. Fits (kind_at ss (w.index, w.sub)) w.bytes) ws
+unfoldable pub AreValues : Sheet → List Write → Type 0
+AreValues sheet ws = All (λ w. Fits (kind_at sheet (w.index, w.sub)) w.bytes) ws
 
 -- at most 72 writes a PDO: COB-ID twice, transmission type, two times, SYNC start value, and 64 mapping entries with
 -- their count twice

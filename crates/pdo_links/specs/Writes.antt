@@ -11,10 +11,10 @@ use Rattle.co_values.specs.declared.form.Width.TheVariants.{Bits8, Bits16}
 use Rattle.cia301.specs.CobIds.{no_rtr_bit, off_bit}
 use Rattle.cia301.specs.PdoObjects.{mapping_object, rpdo_object, tpdo_object}
 use Rattle.concise_dcf.specs.declared.write.Write.{Write}
-use Rattle.ini_text.specs.Content.{Section}
 use Rattle.node_parameters.specs.Params.{Texts}
 use Rattle.node_parameters.specs.Parameters.{parameter_writes}
 use Rattle.eds_device.specs.Entries.{entry_at}
+use Rattle.eds_device.specs.Sheets.{Sheet}
 use Rattle.pdo_choices.specs.declared.clean.Clean.{Clean}
 use Rattle.pdo_choices.specs.declared.consumer.Consumer.{Consumer}
 use Rattle.pdo_plan.specs.declared.planned_message.PlannedMessage.{PlannedMessage}
@@ -24,26 +24,26 @@ use Rattle.pdo_links.specs.PdoWrites.{cob_write, mapping_writes, rpdo_of, taken_
 use Rattle.pdo_links.specs.VendorWrites.{vendor_link_writes}
 
 -- a time is written where the entry is there, UNSIGNED16 and writable
-abbrev pub time_write : List Section → ℕ → ℕ → ℕ → ℕ → List Write
-time_write ss node object sub time =
-    if option_map_or (takes_unsigned Bits16) (entry_at ss node object sub) false
+abbrev pub time_write : Sheet → ℕ → ℕ → ℕ → ℕ → List Write
+time_write sheet node object sub time =
+    if option_map_or (takes_unsigned Bits16) (entry_at sheet node object sub) false
     then write_at object sub (little_bytes 2 time) ∷ [] else []
 
 -- and so is the SYNC start value, where its entry is UNSIGNED8
-abbrev pub start_write : List Section → ℕ → ℕ → ℕ → List Write
-start_write ss node object start =
-    if option_map_or (takes_unsigned Bits8) (entry_at ss node object 6) false
+abbrev pub start_write : Sheet → ℕ → ℕ → ℕ → List Write
+start_write sheet node object start =
+    if option_map_or (takes_unsigned Bits8) (entry_at sheet node object 6) false
     then write_at object 6 (start ∷ []) ∷ [] else []
 
 -- a TPDO: it is switched off; transmission type, inhibit time, event timer and SYNC start value; the mapping; it is
 -- switched on
-unfoldable pub tpdo_writes : List Section → ℕ → Clean → List Write
-tpdo_writes ss node c =
+unfoldable pub tpdo_writes : Sheet → ℕ → Clean → List Write
+tpdo_writes sheet node c =
     let object = tpdo_object c.message.tpdo in
     cob_write object (off_bit + (no_rtr_bit + c.identifier))
     ∷ write_at object 2 (c.message.transmission ∷ [])
-    ∷ (time_write ss node object 3 c.message.inhibit ++ time_write ss node object 5 c.message.event
-    ++ start_write ss node object c.start ++ mapping_writes (mapping_object object) c.mapping
+    ∷ (time_write sheet node object 3 c.message.inhibit ++ time_write sheet node object 5 c.message.event
+    ++ start_write sheet node object c.start ++ mapping_writes (mapping_object object) c.mapping
     ++ cob_write object (no_rtr_bit + c.identifier) ∷ [])
 
 -- an RPDO likewise
@@ -64,16 +64,16 @@ unfoldable pub by_number : {X : Type 0} → (X → List Write) → List (ℕ × 
 by_number pdo_writes pdos = flat_map (at_number pdo_writes pdos) (range_with_len 1 512)
 
 -- all of a node's TPDOs, and then all of its RPDOs
-unfoldable pub set_link_writes : List PlannedMessage → List Section → ℕ → List Write
-set_link_writes plan ss node =
-    by_number (tpdo_writes ss node) (filter_map (tpdo_of node) (clean plan))
+unfoldable pub set_link_writes : List PlannedMessage → Sheet → ℕ → List Write
+set_link_writes plan sheet node =
+    by_number (tpdo_writes sheet node) (filter_map (tpdo_of node) (clean plan))
     ++ by_number (λ taken. rpdo_writes taken.0 taken.1) (filter_map (rpdo_of node) (clean plan))
 
 -- the same by the rules of version 3 or not
-abbrev pub link_writes : Bool → List PlannedMessage → List Section → ℕ → List Write
-link_writes is_three plan ss node =
-    if is_three then vendor_link_writes plan (as_made ss node) node else set_link_writes plan ss node
+abbrev pub link_writes : Bool → List PlannedMessage → Sheet → ℕ → List Write
+link_writes is_three plan sheet node =
+    if is_three then vendor_link_writes plan (as_made sheet node) node else set_link_writes plan sheet node
 
 -- THE WRITES of a node: those of its parameters, and then those of its PDOs
-unfoldable pub node_writes : Bool → List PlannedMessage → Texts → List Section → ℕ → List Write
-node_writes is_three plan params ss node = parameter_writes ss params node ++ link_writes is_three plan ss node
+unfoldable pub node_writes : Bool → List PlannedMessage → Texts → Sheet → ℕ → List Write
+node_writes is_three plan params sheet node = parameter_writes sheet params node ++ link_writes is_three plan sheet node

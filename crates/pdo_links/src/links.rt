@@ -27,11 +27,11 @@ fn put_set_links(
     node: u8,
 ) -> Result<(), AllocError>
     ensures writes { OnOk result (writes.new.items
-        ≡ writes.old.items ++ set_link_writes plan.now device.now.sections node) }
-    ensures fits { IsMadeFor plan.now device.now.sections node
-        → OnOk result (AreValues device.now.sections (set_link_writes plan.now device.now.sections node)) }
-    ensures sizes { OnOk result (All IsSized (set_link_writes plan.now device.now.sections node)) }
-    ensures count { OnOk result (length (set_link_writes plan.now device.now.sections node)
+        ≡ writes.old.items ++ set_link_writes plan.now device.now node) }
+    ensures fits { IsMadeFor plan.now device.now node
+        → OnOk result (AreValues device.now (set_link_writes plan.now device.now node)) }
+    ensures sizes { OnOk result (All IsSized (set_link_writes plan.now device.now node)) }
+    ensures count { OnOk result (length (set_link_writes plan.now device.now node)
         ≤ most_pdo_writes * 2) }
 {
     put_tpdos(alloc, writes, plan, device, node)?;
@@ -67,12 +67,12 @@ fn put_vendor_links(
     node: u8,
 ) -> Result<(), AllocError>
     ensures writes { OnOk result (writes.new.items
-        ≡ writes.old.items ++ vendor_link_writes plan.now (as_made device.now.sections node) node) }
-    ensures fits { OnOk result (AreValues device.now.sections
-        (vendor_link_writes plan.now (as_made device.now.sections node) node)) }
+        ≡ writes.old.items ++ vendor_link_writes plan.now (as_made device.now node) node) }
+    ensures fits { OnOk result (AreValues device.now
+        (vendor_link_writes plan.now (as_made device.now node) node)) }
     ensures sizes { OnOk result (All IsSized
-        (vendor_link_writes plan.now (as_made device.now.sections node) node)) }
-    ensures count { OnOk result (length (vendor_link_writes plan.now (as_made device.now.sections node) node)
+        (vendor_link_writes plan.now (as_made device.now node) node)) }
+    ensures count { OnOk result (length (vendor_link_writes plan.now (as_made device.now node) node)
         ≤ most_pdo_writes * 2) }
 {
     let made = AsMade::of(device, node)?;
@@ -91,12 +91,12 @@ pub(crate) fn put_links(
     node: u8,
 ) -> Result<(), AllocError>
     ensures writes { OnOk result (writes.new.items
-        ≡ writes.old.items ++ link_writes is_three plan.now device.now.sections node) }
-    ensures fits { IsTrue is_three ⊎ IsMadeFor plan.now device.now.sections node
-        → OnOk result (AreValues device.now.sections
-        (link_writes is_three plan.now device.now.sections node)) }
-    ensures sizes { OnOk result (All IsSized (link_writes is_three plan.now device.now.sections node)) }
-    ensures count { OnOk result (length (link_writes is_three plan.now device.now.sections node)
+        ≡ writes.old.items ++ link_writes is_three plan.now device.now node) }
+    ensures fits { IsTrue is_three ⊎ IsMadeFor plan.now device.now node
+        → OnOk result (AreValues device.now
+        (link_writes is_three plan.now device.now node)) }
+    ensures sizes { OnOk result (All IsSized (link_writes is_three plan.now device.now node)) }
+    ensures count { OnOk result (length (link_writes is_three plan.now device.now node)
         ≤ most_pdo_writes * 2) }
 {
     if is_three {

@@ -1,8 +1,8 @@
 //! The writes of a node's RPDOs.
 ghost use Rattle.std.specs.Prelude.{◌≡◌, ℕ, true, List, ◌++◌, length, filter_map, OnOk, IfOk};
 ghost use Rattle.std.specs.Option.{option_map, option_and_then};
-ghost use Rattle.ini_text.specs.Content.{Section};
 ghost use Rattle.cia301.specs.PdoObjects.{rpdo_object};
+ghost use Rattle.eds_device.specs.Sheets.{Sheet};
 ghost use Rattle.pdo_plan.specs.Plan.{HasPdo, IsMadeFor, clean, clean_of};
 ghost use Rattle.pdo_choices.specs.Limits.{IsNumbered};
 ghost use Rattle.pdo_links.specs.Tables.{AreFew, AreValues, IsTableOf};
@@ -38,9 +38,9 @@ pub(crate) fn taken_type(transmission: u8) -> u8
 fn put_rpdo(writes: &mut Vec<Write>, clean: &Clean, consumer: &Consumer) -> Result<(), AllocError>
     requires { IsNumbered consumer.now.rpdo consumer.now.mapping }
     ensures writes { OnOk result (writes.new.items ≡ writes.old.items ++ rpdo_writes clean.now consumer.now) }
-    ensures fits { (ss : List Section) (node : ℕ)
-        → HasPdo ss node (rpdo_object consumer.now.rpdo) (length consumer.now.mapping)
-        → OnOk result (AreValues ss (rpdo_writes clean.now consumer.now)) }
+    ensures fits { (sheet : Sheet) (node : ℕ)
+        → HasPdo sheet node (rpdo_object consumer.now.rpdo) (length consumer.now.mapping)
+        → OnOk result (AreValues sheet (rpdo_writes clean.now consumer.now)) }
 {
     let object = rpdo_object(consumer.rpdo);
     let identifier = u32::from(clean.identifier);
@@ -97,8 +97,8 @@ pub(crate) fn put_rpdos(
         (filter_map (rpdo_of node) (clean plan.now))) }
     ensures few { OnOk result (AreFew (by_number (λ t. rpdo_writes t.0 t.1)
         (filter_map (rpdo_of node) (clean plan.now)))) }
-    ensures fits { (ss : List Section) → IsMadeFor plan.now ss node
-        → OnOk result (AreValues ss (by_number (λ t. rpdo_writes t.0 t.1)
+    ensures fits { (sheet : Sheet) → IsMadeFor plan.now sheet node
+        → OnOk result (AreValues sheet (by_number (λ t. rpdo_writes t.0 t.1)
         (filter_map (rpdo_of node) (clean plan.now)))) }
 {
     let rpdos = rpdos_of(alloc, plan.messages(), node)?;

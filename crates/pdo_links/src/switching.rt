@@ -83,10 +83,11 @@ pub(crate) fn put_on(
 pub fn is_switched_off(device: &AsMade, object: u16) -> bool
     ensures { result ≡ is_switched_off device.now object }
 {
+    if !is_open(device, object) {
+        return false;
+    }
     let cob = parameter_default(device, object, COB_ID);
-    is_open(device, object)
-        && CobId::of(cob).is_valid()
-        && allows(device, object, COB_ID, CobId::OFF_BIT + cob)
+    CobId::of(cob).is_valid() && allows(device, object, COB_ID, CobId::OFF_BIT + cob)
 }
 
 /// Adds the write that switches a PDO off that no message uses, where that is done.

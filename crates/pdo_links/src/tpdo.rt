@@ -25,7 +25,7 @@ use std::collections::BTreeMap;
 
 /// Whether an entry is there, an UNSIGNEDn of a width and writable.
 fn takes_unsigned(device: &DataSheet, node: u8, width: Width, index: u16, sub: u8) -> bool
-    ensures { result ≡ option_map_or (takes_unsigned width) (entry_at device.now.sections node index sub) false }
+    ensures { result ≡ option_map_or (takes_unsigned width) (entry_at device.now node index sub) false }
 {
     match device.entry(node, index, sub) {
         Some(entry) => is_unsigned(entry.kind, width) && entry.access.is_writable(),
@@ -42,7 +42,7 @@ fn put_time(
     sub: u8,
     time: u16,
 ) -> Result<(), AllocError>
-    ensures { OnOk result (writes.new.items ≡ writes.old.items ++ time_write device.now.sections node object sub time) }
+    ensures { OnOk result (writes.new.items ≡ writes.old.items ++ time_write device.now node object sub time) }
 {
     if takes_unsigned(device, node, Width::Bits16, object, sub) {
         put_u16(writes, object, sub, time)?;
@@ -58,7 +58,7 @@ fn put_start(
     object: u16,
     start: u8,
 ) -> Result<(), AllocError>
-    ensures write { OnOk result (writes.new.items ≡ writes.old.items ++ start_write device.now.sections node object start) }
+    ensures write { OnOk result (writes.new.items ≡ writes.old.items ++ start_write device.now node object start) }
     ensures range { start < 256 }
 {
     if takes_unsigned(device, node, Width::Bits8, object, SYNC_START) {
@@ -78,9 +78,9 @@ fn put_timing(
 ) -> Result<(), AllocError>
     ensures writes { OnOk result (writes.new.items
         ≡ writes.old.items ++ (write_at object 2 (clean.now.message.transmission ∷ [])
-        ∷ (time_write device.now.sections node object 3 clean.now.message.inhibit
-        ++ time_write device.now.sections node object 5 clean.now.message.event
-        ++ start_write device.now.sections node object clean.now.start))) }
+        ∷ (time_write device.now node object 3 clean.now.message.inhibit
+        ++ time_write device.now node object 5 clean.now.message.event
+        ++ start_write device.now node object clean.now.start))) }
     ensures range { OnOk result (clean.now.message.transmission < 256) }
     ensures start { OnOk result (clean.now.start < 256) }
 {
@@ -102,9 +102,9 @@ fn put_tpdo(
 ) -> Result<(), AllocError>
     requires { IsWithin clean.now }
     ensures writes { OnOk result (writes.new.items
-        ≡ writes.old.items ++ tpdo_writes device.now.sections node clean.now) }
-    ensures fits { HasPdo device.now.sections node (tpdo_object clean.now.message.tpdo) (length clean.now.mapping)
-        → OnOk result (AreValues device.now.sections (tpdo_writes device.now.sections node clean.now)) }
+        ≡ writes.old.items ++ tpdo_writes device.now node clean.now) }
+    ensures fits { HasPdo device.now node (tpdo_object clean.now.message.tpdo) (length clean.now.mapping)
+        → OnOk result (AreValues device.now (tpdo_writes device.now node clean.now)) }
 {
     let object = tpdo_object(clean.message.tpdo);
     let identifier = CobId::NO_RTR_BIT + u32::from(clean.identifier);
@@ -153,12 +153,12 @@ pub(crate) fn put_tpdos(
     node: u8,
 ) -> Result<(), AllocError>
     ensures writes { OnOk result (writes.new.items
-        ≡ writes.old.items ++ by_number (tpdo_writes device.now.sections node)
+        ≡ writes.old.items ++ by_number (tpdo_writes device.now node)
         (filter_map (tpdo_of node) (clean plan.now))) }
-    ensures few { OnOk result (AreFew (by_number (tpdo_writes device.now.sections node)
+    ensures few { OnOk result (AreFew (by_number (tpdo_writes device.now node)
         (filter_map (tpdo_of node) (clean plan.now)))) }
-    ensures fits { IsMadeFor plan.now device.now.sections node
-        → OnOk result (AreValues device.now.sections (by_number (tpdo_writes device.now.sections node)
+    ensures fits { IsMadeFor plan.now device.now node
+        → OnOk result (AreValues device.now (by_number (tpdo_writes device.now node)
         (filter_map (tpdo_of node) (clean plan.now)))) }
 {
     let tpdos = tpdos_of(alloc, plan.messages(), node)?;

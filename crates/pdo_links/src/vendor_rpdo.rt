@@ -1,11 +1,12 @@
 //! The writes of a node's RPDOs, as its vendor made them.
-ghost use Rattle.std.specs.Prelude.{◌≡◌, ◌≤◌, ◌==◌, ℕ, List, [], ◌++◌, filter_map, if◌then◌else◌, OnOk, IfSome};
+ghost use Rattle.std.specs.Prelude.{◌≡◌, ◌<◌, ◌≤◌, ◌==◌, ℕ, List, [], ◌++◌, filter_map, if◌then◌else◌, None, OnOk};
+ghost use Rattle.std.specs.Prelude.{IfSome};
 ghost use Rattle.std.specs.Map.{lookup};
 ghost use Rattle.std.specs.BTreeMap.{is_at};
 ghost use Rattle.std.specs.Option.{option_map, option_map_or};
 ghost use Rattle.std.specs.Ordering.{nat_cmp};
-ghost use Rattle.ini_text.specs.Content.{Section};
 ghost use Rattle.cia301.specs.PdoObjects.{rpdo_object};
+ghost use Rattle.eds_device.specs.Sheets.{Sheet};
 ghost use Rattle.pdo_stations.specs.Devices.{as_made};
 ghost use Rattle.pdo_choices.specs.Limits.{IsNumbered};
 ghost use Rattle.pdo_plan.specs.Plan.{clean};
@@ -13,6 +14,7 @@ ghost use Rattle.pdo_links.specs.PdoWrites.{rpdo_of, taken_type};
 ghost use Rattle.pdo_links.specs.Tables.{AreFew, AreValues};
 ghost use Rattle.pdo_links.specs.VendorWrites.{each_by_number, parameter_write, unused_writes, vendor_rpdo_writes};
 
+use crate::first::next_number;
 use crate::parameters::{EVENT_TIMER, TRANSMISSION_TYPE};
 use crate::rpdo::{rpdos_of, taken_type};
 use crate::settings::put_parameter;
@@ -24,6 +26,7 @@ use pdo_plan::{Clean, Consumer, Plan};
 use pdo_stations::AsMade;
 use std::alloc::{AllocError, Global};
 use std::collections::BTreeMap;
+use vendor_pdos::next_rpdo;
 
 /// Adds the writes that say when what an RPDO takes counts, and within which time a frame is expected, where the
 /// project gives one.
@@ -57,8 +60,8 @@ fn put_rpdo(
     requires { IsNumbered consumer.now.rpdo consumer.now.mapping }
     ensures writes { OnOk result (writes.new.items
         ≡ writes.old.items ++ vendor_rpdo_writes device.now clean.now consumer.now) }
-    ensures fits { (ss : List Section) (node : ℕ) → device.now ≡ as_made ss node
-        → OnOk result (AreValues ss (vendor_rpdo_writes device.now clean.now consumer.now)) }
+    ensures fits { (sheet : Sheet) (node : ℕ) → device.now ≡ as_made sheet node
+        → OnOk result (AreValues sheet (vendor_rpdo_writes device.now clean.now consumer.now)) }
 {
     let object = rpdo_object(consumer.rpdo);
     let cob = u32::from(clean.identifier);
@@ -80,8 +83,8 @@ fn put_numbered(
     ensures writes { OnOk result (writes.new.items ≡ writes.old.items
         ++ option_map_or (λ t. vendor_rpdo_writes device.now t.clean.now t.consumer.now) used.entry
         (unused_writes device.now (rpdo_object number))) }
-    ensures fits { (ss : List Section) (node : ℕ) → device.now ≡ as_made ss node
-        → OnOk result (AreValues ss (option_map_or
+    ensures fits { (sheet : Sheet) (node : ℕ) → device.now ≡ as_made sheet node
+        → OnOk result (AreValues sheet (option_map_or
         (λ t. vendor_rpdo_writes device.now t.clean.now t.consumer.now) used.entry
         (unused_writes device.now (rpdo_object number)))) }
 {
@@ -98,6 +101,20 @@ fn used_at<'a>(rpdos: &BTreeMap<u16, Taken<'a>>, number: u16) -> Option<Taken<'a
     rpdos.get(&number).copied()
 }
 
+/// The least number, from a given one on and up to 512, of an RPDO that a message uses, or whose communication object
+/// the device has; 513 where there is none. For no other number is anything written.
+fn next_written(rpdos: &BTreeMap<u16, Taken<'_>>, device: &AsMade, from: u16) -> u16
+    requires { from ≤ 513 }
+    ensures low { from ≤ result }
+    ensures high { result ≤ 513 }
+    ensures unused { (number : ℕ) → from ≤ number → number < result
+        → lookup (is_at (nat_cmp number)) rpdos.now.entries ≡ None }
+    ensures nothing { (number : ℕ) → from ≤ number → number < result
+        → unused_writes device.now (rpdo_object number) ≡ [] }
+{
+    next_number(rpdos, from, next_rpdo(device, from))
+}
+
 /// Adds the writes of all RPDOs of a node by number: of those by which it takes the messages of a plan, and of
 /// those that are switched off.
 pub(crate) fn put_vendor_rpdos(
@@ -112,13 +129,15 @@ pub(crate) fn put_vendor_rpdos(
         (λ number. unused_writes device.now (rpdo_object number)) (filter_map (rpdo_of node) (clean plan.now))) }
     ensures few { OnOk result (AreFew (each_by_number (λ t. vendor_rpdo_writes device.now t.0 t.1)
         (λ number. unused_writes device.now (rpdo_object number)) (filter_map (rpdo_of node) (clean plan.now)))) }
-    ensures fits { (ss : List Section) (node_number : ℕ) → device.now ≡ as_made ss node_number
-        → OnOk result (AreValues ss (each_by_number (λ t. vendor_rpdo_writes device.now t.0 t.1)
+    ensures fits { (sheet : Sheet) (node_number : ℕ) → device.now ≡ as_made sheet node_number
+        → OnOk result (AreValues sheet (each_by_number (λ t. vendor_rpdo_writes device.now t.0 t.1)
         (λ number. unused_writes device.now (rpdo_object number)) (filter_map (rpdo_of node) (clean plan.now)))) }
 {
     let rpdos = rpdos_of(alloc, plan.messages(), node)?;
-    'numbers: for number in 1..LAST_PDO + 1 {
+    let mut number = next_written(&rpdos, device, 1);
+    'numbers: while number <= LAST_PDO {
         put_numbered(writes, device, number, used_at(&rpdos, number))?;
+        number = next_written(&rpdos, device, number + 1);
     }
     Ok(())
 }

@@ -30,12 +30,12 @@ pub fn writes(
     node: u8,
 ) -> Result<Vec<Write>, AllocError>
     ensures writes { IfOk result (λ writes. writes.items
-        ≡ node_writes is_three plan.now params.now device.now.sections node) }
+        ≡ node_writes is_three plan.now params.now device.now node) }
 
     // Each is a value of its entry: in version 3 always, before where the plan was made for this device as this
     // node.
-    ensures fits { IsTrue is_three ⊎ IsMadeFor plan.now device.now.sections node
-        → IfOk result (λ writes. All (λ w. Fits (kind_at device.now.sections (w.index, w.sub)) w.bytes) writes.items) }
+    ensures fits { IsTrue is_three ⊎ IsMadeFor plan.now device.now node
+        → IfOk result (λ writes. All (λ w. Fits (kind_at device.now (w.index, w.sub)) w.bytes) writes.items) }
 
     // Each has from 1 to 512 bytes, and they can be counted in 32 bits.
     ensures sizes { IfOk result (λ writes. All IsSized writes.items) }

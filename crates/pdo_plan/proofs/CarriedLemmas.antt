@@ -11,10 +11,10 @@ use Rattle.std.proofs.lemmas.Bool.Decides.{nat_tests}
 use Rattle.co_dict.specs.declared.direction.Direction.TheVariants.{Transmit}
 use Rattle.pdo_stations.specs.declared.carried.Carried.{Carried}
 use Rattle.pdo_stations.specs.declared.mapped.Mapped.{Mapped}
-use Rattle.pdo_stations.specs.Devices.{Devices, can_map, width_at}
+use Rattle.pdo_stations.specs.Devices.{Devices, can_map, type_at, width_at}
 use Rattle.pdo_plan.specs.Mapping.{Sources, bits_of, sent_mapping, taken_mapping, lacks_dummy_at, is_mismatched}
 use Rattle.pdo_choices.specs.Consumers.{Sinks}
-use Rattle.pdo_plan.specs.Mapping.{differ}
+use Rattle.pdo_plan.specs.Mapping.{misfit}
 use Rattle.pdo_stations.specs.Carried.{carried_by, carried_of, bits_in, total_bits, sent_by, taken_by, taken_of_all}
 use Rattle.pdo_stations.specs.Carried.{lacks_some, lacks_dummy_for, carried_at}
 use Rattle.pdo_plan.specs.Carried.{mismatches}
@@ -63,9 +63,11 @@ module _ (devices : Devices) (sender : ℕ) where
     where
       by : (b : Bool) → is_at (nat_cmp sink.0.0) s.0 ≡ b
           → mismatches devices (carried_of devices sender ss) sink ≡ is_mismatched devices sender ss sink
-          → option_map_or (λ (c : Carried). differ c.bits (width_at devices sink.0.1 sink.1))
+          → option_map_or (λ (c : Carried). misfit c.bits c.kind (width_at devices sink.0.1 sink.1)
+          (type_at devices sink.0.1 sink.1))
           (cond b (Some (carried_by devices sender s)) (carried_at (carried_of devices sender ss) sink.0.0)) true
-          ≡ option_map_or (λ place. differ (width_at devices sender place) (width_at devices sink.0.1 sink.1))
+          ≡ option_map_or (λ place. misfit (width_at devices sender place) (type_at devices sender place)
+          (width_at devices sink.0.1 sink.1) (type_at devices sink.0.1 sink.1))
           (cond (is_at (nat_cmp sink.0.0) s.0) (Some s.1) (lookup (is_at (nat_cmp sink.0.0)) ss)) true
       by true e rest = rw e refl
       by false e rest = rw e rest

@@ -5,10 +5,10 @@ use Rattle.std.specs.List.{list_all, range_with_len, All, Contains}
 use Rattle.std.specs.Map.{lookup}
 use Rattle.std.proofs.lemmas.Bool.Decides.{nat_tests}
 use Rattle.std.proofs.lemmas.List.Elements.{All-contains, All-from_recursion}
-use Rattle.ini_text.specs.Content.{Section}
 use Rattle.co_values.specs.declared.form.Width.TheVariants.{Bits8, Bits32}
 use Rattle.cia301.specs.CobIds.{is_restricted}
 use Rattle.eds_device.specs.Entries.{entry_at}
+use Rattle.eds_device.specs.Sheets.{Sheet}
 use Rattle.project_messages.specs.declared.linked.Linked.{Linked}
 use Rattle.project_messages.specs.declared.message.Message.{Message}
 use Rattle.project_messages.specs.Messages.{IsLinked}
@@ -90,7 +90,7 @@ itself : (n : ℕ) → (n == n) ≡ true
 itself n = grind (arith, nat_tests)
 
 -- in versions 1 and 2 an RPDO that is found has what its writes name
-two_has : (had : Had) (nodes : List (ℕ × List Section)) (m : Linked) (node number : ℕ)
+two_has : (had : Had) (nodes : List (ℕ × Sheet)) (m : Linked) (node number : ℕ)
     → rpdo_for had (devices_of false nodes) m node ≡ Some number
     → has_pdo (devices_of false nodes) node (rpdo_object number) (length m.sources) ≡ true
 unfolding rpdo_for
@@ -102,30 +102,30 @@ two_has had nodes m node number e =
     subst (λ n. has_pdo devices node (rpdo_object number) n ≡ true)
     (length-map m.sources (carried_by devices m.message.node)) (and_right _ _ is.2)
 
-module _ (nodes : List (ℕ × List Section)) (node : ℕ) (ss : List Section)
-    (there : lookup (λ n. n == node) nodes ≡ Some ss) where
+module _ (nodes : List (ℕ × Sheet)) (node : ℕ) (sheet : Sheet)
+    (there : lookup (λ n. n == node) nodes ≡ Some sheet) where
   -- the plan's device of the node is this device
-  entries_same : (devices_of false nodes).entry node ≡ (devices_of false ((node, ss) ∷ [])).entry node
+  entries_same : (devices_of false nodes).entry node ≡ (devices_of false ((node, sheet) ∷ [])).entry node
   entries_same =
-      let one : lookup (λ n. n == node) ((node, ss) ∷ [])
-      ≡ Some ss = ap (λ b. cond b (Some ss) (lookup (λ n. n == node) [])) (itself node) in
+      let one : lookup (λ n. n == node) ((node, sheet) ∷ [])
+      ≡ Some sheet = ap (λ b. cond b (Some sheet) (lookup (λ n. n == node) [])) (itself node) in
       λ i place. option_and_then (λ s. entry_at s node place.0 place.1) ((there ∙ sym one) i)
 
   has_here : (number object few count : ℕ) → number ≡ node → few ≤ count
-      → has_pdo (devices_of false nodes) number object count ≡ true → HasPdo ss node object few
+      → has_pdo (devices_of false nodes) number object count ≡ true → HasPdo sheet node object few
   has_here number object few count is up has =
       let here : has_pdo (devices_of false nodes) node object count
       ≡ true = subst (λ n. has_pdo (devices_of false nodes) n object count ≡ true) is has in
-      sym (pdo_alike (devices_of false nodes) (devices_of false ((node, ss) ∷ [])) node node object few entries_same)
+      sym (pdo_alike (devices_of false nodes) (devices_of false ((node, sheet) ∷ [])) node node object few entries_same)
       ∙ fewer (devices_of false nodes) node object few count up here
 
   abbrev Made : Clean → Type 0
-  Made c = (c.message.node ≡ node → HasPdo ss node (tpdo_object c.message.tpdo) (length c.mapping))
+  Made c = (c.message.node ≡ node → HasPdo sheet node (tpdo_object c.message.tpdo) (length c.mapping))
       × ((k : Consumer) → Contains c.consumers k → k.node ≡ node
-      → HasPdo ss node (rpdo_object k.rpdo) (length k.mapping))
+      → HasPdo sheet node (rpdo_object k.rpdo) (length k.mapping))
 
   abbrev MadeTaker : Consumer → Type 0
-  MadeTaker k = k.node ≡ node → HasPdo ss node (rpdo_object k.rpdo) (length k.mapping)
+  MadeTaker k = k.node ≡ node → HasPdo sheet node (rpdo_object k.rpdo) (length k.mapping)
 
   taker_made : (had : Had) (m : Linked) (n : ℕ) (k : Consumer) → consumer_of had (devices_of false nodes) m n ≡ Some k
       → MadeTaker k
@@ -160,7 +160,7 @@ module _ (nodes : List (ℕ × List Section)) (node : ℕ) (ss : List Section)
         λ k among. All-contains MadeTaker c.consumers k takers among,
       )
 
-  pub made_for : (ms : List (List ℕ × Linked)) → IsMadeFor (plan_of (devices_of false nodes) ms) ss node
+  pub made_for : (ms : List (List ℕ × Linked)) → IsMadeFor (plan_of (devices_of false nodes) ms) sheet node
   made_for ms c among =
       All-contains Made (clean (plan_of (devices_of false nodes) ms)) c
       (all_clean Made (clean (plan_of (devices_of false nodes) ms))

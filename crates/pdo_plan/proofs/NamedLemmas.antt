@@ -10,13 +10,15 @@ use Rattle.std.specs.Map.{lookup}
 use Rattle.std.specs.Option.{option_map_or}
 use Rattle.std.specs.Ordering.{nat_cmp}
 use Rattle.std.proofs.lemmas.Bool.Decides.{nat_tests}
-use Rattle.ini_text.specs.Content.{Section}
 use Rattle.co_dict.specs.declared.direction.Direction.TheVariants.{Transmit, Receive}
 use Rattle.co_dict.specs.declared.entry.Entry.{Entry}
 use Rattle.co_dict.specs.Pdos.{is_mappable}
+use Rattle.co_values.specs.declared.data_type.DataType.{DataType}
+use Rattle.co_values.specs.declared.data_type.DataType.TheVariants.{NotModelled}
 use Rattle.co_values.specs.Types.{width_bits}
 use Rattle.cia301.specs.TransmissionTypes.{is_reserved, type_of_byte}
 use Rattle.eds_device.specs.Entries.{entry_at, dummy_allowed}
+use Rattle.eds_device.specs.Sheets.{Sheet}
 use Rattle.project_messages.specs.declared.linked.Linked.{Linked}
 use Rattle.project_messages.specs.Messages.{source_at, is_of_message, is_of_messages, Named}
 use Rattle.pdo_choices.specs.declared.clean.Clean.{Clean}
@@ -30,7 +32,7 @@ use Rattle.pdo_stations.specs.Devices.{Devices, devices_of, can_map}
 use Rattle.cia301.specs.PdoObjects.{rpdo_object, tpdo_object}
 use Rattle.pdo_choices.specs.Least.{least_free}
 use Rattle.pdo_choices.specs.Consumers.{Sinks, nodes_put, consumers_of}
-use Rattle.pdo_plan.specs.Mapping.{differ, bits_of, sent_mapping, taken_mapping, is_mismatched, lacks_dummy_at}
+use Rattle.pdo_plan.specs.Mapping.{misfit, bits_of, sent_mapping, taken_mapping, is_mismatched, lacks_dummy_at}
 use Rattle.pdo_choices.specs.Had.{Had, Withheld, had_by, withheld_by}
 use Rattle.pdo_choices.specs.Rpdos.{is_free_rpdo, rpdo_for, vendor_rpdo}
 use Rattle.pdo_plan.specs.Plan.{consumer_of}
@@ -172,9 +174,12 @@ module _ (had : Had) (d e : Devices) (dn : d.vendor ≡ None) (en : e.vendor ≡
   mismatch_alike =
       let width : (ℕ × ℕ → Option Entry) → ℕ × ℕ
       → Option ℕ = λ entry place. option_and_then (λ (x : Entry). width_bits x.kind) (entry place) in
+      let kind : (ℕ × ℕ → Option Entry) → ℕ × ℕ
+      → DataType = λ entry place. option_map_or (λ (x : Entry). x.kind) (entry place) NotModelled in
       any_alike (is_mismatched d sender m.sources) (is_mismatched e sender m.sources) m.sinks
       (each_is (λ s. AreAlikeAt d e s.0.1) _ (λ s at. λ i. option_map_or
-      (λ place. differ (width (same.sender.entry i) place) (width (at.entry i) s.1))
+      (λ place. misfit (width (same.sender.entry i) place) (kind (same.sender.entry i) place)
+      (width (at.entry i) s.1) (kind (at.entry i) s.1))
       (source_at m.sources s.0.0) true) m.sinks same.takers)
 
   rpdo_alike : (node : ℕ) → AreAlikeAt d e node
@@ -306,14 +311,14 @@ module _ (d e : Devices) where
   )
 
 -- of a node that two lists of nodes look up alike their devices say the same
-lookup_alike : (a b : List (ℕ × List Section)) (node : ℕ) → lookup (λ n. n == node) a ≡ lookup (λ n. n == node) b
+lookup_alike : (a b : List (ℕ × Sheet)) (node : ℕ) → lookup (λ n. n == node) a ≡ lookup (λ n. n == node) b
     → AreAlikeAt (devices_of false a) (devices_of false b) node
 lookup_alike a b node same = record {
-  entry = λ i place. option_and_then (λ ss. entry_at ss node place.0 place.1) (same i);
-  dummy = λ i kind. option_map_or (λ ss. dummy_allowed ss kind) (same i) false;
+  entry = λ i place. option_and_then (λ sheet. entry_at sheet node place.0 place.1) (same i);
+  dummy = λ i kind. option_map_or (λ sheet. dummy_allowed sheet.sections kind) (same i) false;
 }
 
-pub named_alike : (a b : List (ℕ × List Section)) (messages : Named)
+pub named_alike : (a b : List (ℕ × Sheet)) (messages : Named)
     → ((node : ℕ) → is_of_messages node messages ≡ true → lookup (λ n. n == node) a ≡ lookup (λ n. n == node) b)
     → plan_of (devices_of false a) (entries messages) ≡ plan_of (devices_of false b) (entries messages)
 named_alike a b messages same =

@@ -7,8 +7,8 @@ use Rattle.pdo_stations.specs.declared.carried.Carried.{Carried}
 use Rattle.pdo_choices.specs.declared.clean.Clean.{Clean}
 use Rattle.pdo_choices.specs.declared.consumer.Consumer.{Consumer}
 use Rattle.pdo_stations.specs.Carried.{carried_at, sent_by, taken_of_all}
-use Rattle.pdo_stations.specs.Devices.{Devices, can_map, width_at}
-use Rattle.pdo_plan.specs.Mapping.{differ}
+use Rattle.pdo_stations.specs.Devices.{Devices, can_map, type_at, width_at}
+use Rattle.pdo_plan.specs.Mapping.{misfit}
 use Rattle.pdo_choices.specs.Had.{Had}
 use Rattle.pdo_choices.specs.Receives.{event_named}
 use Rattle.pdo_plan.specs.Plan.{has_named_objects, serves_message}
@@ -18,10 +18,11 @@ use Rattle.pdo_choices.specs.Rpdos.{rpdo_by}
 abbrev pub is_untakable : Devices → ℕ → (ℕ × ℕ) × (ℕ × ℕ) → Bool
 is_untakable devices sender sink = not (can_map Receive devices sink.0.1 sink.1) || (sink.0.1 == sender)
 
--- a sink without a source at its position, or of another width
+-- a sink without a source at its position, or one that the source doesn't suit
 abbrev pub mismatches : Devices → List Carried → (ℕ × ℕ) × (ℕ × ℕ) → Bool
-mismatches devices cs sink = option_map_or (λ (c : Carried). differ c.bits (width_at devices sink.0.1 sink.1))
-    (carried_at cs sink.0.0) true
+mismatches devices cs sink =
+    option_map_or (λ (c : Carried). misfit c.bits c.kind (width_at devices sink.0.1 sink.1)
+    (type_at devices sink.0.1 sink.1)) (carried_at cs sink.0.0) true
 
 -- the sender's PDO has what its writes name, or in version 3 serves the message
 abbrev pub has_objects_by : Devices → Linked → List Carried → Bool

@@ -1,11 +1,14 @@
 -- The mapping of a message (CiA 301, PDO mapping parameters): what each PDO of it carries.
-use Rattle.std.specs.Prelude.{ℕ, ◌==◌, ◌&&◌, Bool, true, false, not, List, ◌∷◌, map, filter_map, Option, Some, None}
+use Rattle.std.specs.Prelude.{ℕ, ◌==◌, ◌&&◌, ◌||◌, Bool, true, false, not, List, ◌∷◌, map, filter_map, Option, Some, None}
 use Rattle.std.specs.Prelude.{is_none, option_map, option_and_then, sum_by}
 use Rattle.std.specs.Option.{option_map_or, unwrap_or, option_or}
 use Rattle.byteorder.specs.Endian.{little_bytes}
 use Rattle.project_messages.specs.Messages.{source_at, sink_at}
+use Rattle.co_values.specs.declared.data_type.DataType.{DataType}
+use Rattle.co_values.specs.declared.data_type.DataType.TheVariants.{Real32, Real64}
+use Rattle.co_values.specs.Types.{is_modelled}
 use Rattle.pdo_stations.specs.declared.mapped.Mapped.{Mapped}
-use Rattle.pdo_stations.specs.Devices.{Devices, width_at}
+use Rattle.pdo_stations.specs.Devices.{Devices, type_at, width_at}
 use Rattle.pdo_stations.specs.Dummies.{mapped_to, dummy_for}
 use Rattle.pdo_choices.specs.Consumers.{Sinks}
 
@@ -56,8 +59,25 @@ differ None other = false
 differ (Some bits) None = false
 differ (Some bits) (Some other) = not (bits == other)
 
--- a sink without a source at its position, or of another width
+-- REAL32 and REAL64
+abbrev pub is_real : DataType → Bool
+is_real Real32 = true
+is_real Real64 = true
+is_real kind = false
+
+-- two types that are modelled, one of them a REAL and the other another type; before version 3 a device has no REAL
+abbrev pub are_unlike : DataType → DataType → Bool
+are_unlike Real32 Real32 = false
+are_unlike Real64 Real64 = false
+are_unlike kind other = is_modelled kind && is_modelled other && (is_real kind || is_real other)
+
+-- a source and a sink don't suit each other: their widths differ, or one is a REAL and the other of another type
+abbrev pub misfit : Option ℕ → DataType → Option ℕ → DataType → Bool
+misfit width kind other_width other_kind = differ width other_width || are_unlike kind other_kind
+
+-- a sink without a source at its position, or one that the source doesn't suit
 abbrev pub is_mismatched : Devices → ℕ → Sources → (ℕ × ℕ) × (ℕ × ℕ) → Bool
 is_mismatched devices sender sources sink =
-    option_map_or (λ place. differ (width_at devices sender place) (width_at devices sink.0.1 sink.1))
+    option_map_or (λ place. misfit (width_at devices sender place) (type_at devices sender place)
+    (width_at devices sink.0.1 sink.1) (type_at devices sink.0.1 sink.1))
     (source_at sources sink.0.0) true

@@ -1,11 +1,11 @@
 -- The plan of messages: what each that can be sent gets, or why it can't be sent (the order is this profile's own).
-use Rattle.std.specs.Prelude.{◌≡◌, ℕ, ◌+◌, ◌≤◌, ◌==◌, Bool, true, false, not, ◌&&◌, ◌||◌, nat_lt, List, [], ◌∷◌, ◌++◌}
+use Rattle.std.specs.Prelude.{◌≡◌, ℕ, ◌≤◌, ◌==◌, Bool, true, false, not, ◌&&◌, ◌||◌, nat_lt, List, [], ◌∷◌, ◌++◌}
 use Rattle.std.specs.Prelude.{length, map, filter, filter_map, Option, Some, None, is_some, is_none, option_map}
 use Rattle.std.specs.Option.{option_map_or}
 use Rattle.std.specs.List.{list_any, All, Contains}
-use Rattle.ini_text.specs.Content.{Section}
 use Rattle.co_dict.specs.declared.direction.Direction.TheVariants.{Transmit, Receive}
 use Rattle.cia301.specs.TransmissionTypes.{is_reserved, type_of_byte}
+use Rattle.eds_device.specs.Sheets.{Sheet}
 use Rattle.project_messages.specs.declared.linked.Linked.{Linked}
 use Rattle.pdo_plan.specs.declared.message_fault.MessageFault.{MessageFault}
 use Rattle.pdo_plan.specs.declared.message_fault.MessageFault.TheVariants.{NoObjects, TpdoTaken, TooManyBits}
@@ -152,15 +152,15 @@ abbrev pub FitFrames : Clean → Type 0
 FitFrames c = (mapping_bits c.mapping ≤ 64) × All (λ (k : Consumer). mapping_bits k.mapping ≤ 64) c.consumers
 
 -- a device has what the writes of a PDO name
-abbrev pub HasPdo : List Section → ℕ → ℕ → ℕ → Type 0
-HasPdo ss node object count = has_pdo (devices_of false ((node, ss) ∷ [])) node object count ≡ true
+abbrev pub HasPdo : Sheet → ℕ → ℕ → ℕ → Type 0
+HasPdo sheet node object count = has_pdo (devices_of false ((node, sheet) ∷ [])) node object count ≡ true
 
 -- each PDO that the plan gives a node is one that its device has
-abbrev pub IsMadeFor : List PlannedMessage → List Section → ℕ → Type 0
-IsMadeFor plan ss node =
+abbrev pub IsMadeFor : List PlannedMessage → Sheet → ℕ → Type 0
+IsMadeFor plan sheet node =
     (c : Clean) → Contains (clean plan) c
-    → (c.message.node ≡ node → HasPdo ss node (tpdo_object c.message.tpdo) (length c.mapping))
-    × ((k : Consumer) → Contains c.consumers k → k.node ≡ node → HasPdo ss node (rpdo_object k.rpdo) (length k.mapping))
+    → (c.message.node ≡ node → HasPdo sheet node (tpdo_object c.message.tpdo) (length c.mapping))
+    × ((k : Consumer) → Contains c.consumers k → k.node ≡ node → HasPdo sheet node (rpdo_object k.rpdo) (length k.mapping))
 
 -- in version 3 the PDOs of a clean message serve it: that of its sender, and that of each consumer by its identifier
 pub record IsServed (devices : Devices) (made : ℕ → Option AsMade) (m : Linked) (c : Clean) : Type 0 where

@@ -3,14 +3,15 @@ ghost use Rattle.std.specs.Prelude.{◌≡◌, ◌||◌, ℕ, not, true};
 ghost use Rattle.std.specs.List.{list_any};
 ghost use Rattle.std.specs.Option.{option_copied, option_map_or};
 ghost use Rattle.pdo_plan.specs.Carried.{is_untakable, mismatches};
-ghost use Rattle.pdo_plan.specs.Mapping.{differ};
+ghost use Rattle.pdo_plan.specs.Mapping.{are_unlike, differ, is_real, misfit};
 ghost use Rattle.pdo_plan.specs.Plan.{has_unmappable};
 ghost use Rattle.pdo_stations.specs.Carried.{carried_at, carried_of};
-ghost use Rattle.pdo_stations.specs.Devices.{width_at};
+ghost use Rattle.pdo_stations.specs.Devices.{type_at, width_at};
 ghost use Rattle.pdo_stations.specs.Stations.{devices_in};
 
 use co_dict::Direction;
-use pdo_stations::{Carried, Stations, carried_at};
+use co_values::DataType;
+use pdo_stations::{Carried, Mappable, Stations, carried_at};
 use project_messages::{Linked, Sinks};
 
 /// Which faults the entries of a message have.
@@ -18,7 +19,7 @@ use project_messages::{Linked, Sinks};
 pub(crate) struct EntryFaults {
     /// A source or sink isn't there or can't be mapped in its direction, or a sink is on the sender.
     pub unmappable: bool,
-    /// A sink has no source at its position, or one of another width.
+    /// A sink has no source at its position, or one of another width, or of another type where one is a REAL.
     pub mismatched: bool,
 }
 
@@ -52,12 +53,30 @@ fn differ(width: Option<u8>, other: Option<u8>) -> bool
     }
 }
 
-/// Whether there is no source, or one of another width.
-fn is_mismatched(source: Option<&Carried>, width: Option<u8>) -> bool
-    ensures { result ≡ option_map_or (λ c. differ c.bits width) (option_copied source.entry) true }
+/// Whether a type is REAL32 or REAL64.
+fn is_real(kind: DataType) -> bool
+    ensures { result ≡ is_real kind }
+{
+    matches!(kind, DataType::Real32 | DataType::Real64)
+}
+
+/// Whether two types are modelled, one of them a REAL and the other another type.
+fn are_unlike(kind: DataType, other: DataType) -> bool
+    ensures { result ≡ are_unlike kind other }
+{
+    match kind {
+        DataType::Real32 => !matches!(other, DataType::Real32) && other.is_modelled(),
+        DataType::Real64 => !matches!(other, DataType::Real64) && other.is_modelled(),
+        _ => kind.is_modelled() && other.is_modelled() && is_real(other),
+    }
+}
+
+/// Whether there is no source, or one of another width, or of another type where one of the two is a REAL.
+fn is_mismatched(source: Option<&Carried>, sink: Mappable) -> bool
+    ensures { result ≡ option_map_or (λ c. misfit c.bits c.kind sink.width sink.kind) (option_copied source.entry) true }
 {
     match source {
-        Some(source) => differ(source.bits, width),
+        Some(source) => differ(source.bits, sink.width) || are_unlike(source.kind, sink.kind),
         None => true,
     }
 }
@@ -89,13 +108,14 @@ fn sink_faults(
 ) -> EntryFaults
     ensures unmappable { (position : ℕ)
         → result.unmappable ≡ is_untakable (devices_in stations.now) sender ((position, node), place) }
-    ensures mismatched { result.mismatched ≡ option_map_or (λ c. differ c.bits (width_at (devices_in stations.now)
-        node place)) (option_copied source.entry) true }
+    ensures mismatched { result.mismatched ≡ option_map_or (λ c. misfit c.bits c.kind
+        (width_at (devices_in stations.now) node place) (type_at (devices_in stations.now) node place))
+        (option_copied source.entry) true }
 {
     let entry = stations.mappable(Direction::Receive, node, place);
     EntryFaults {
         unmappable: !entry.can_map || node == sender,
-        mismatched: is_mismatched(source, entry.width),
+        mismatched: is_mismatched(source, entry),
     }
 }
 

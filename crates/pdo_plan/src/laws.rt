@@ -3,8 +3,8 @@ ghost use Rattle.std.specs.Prelude.{◌≡◌, ◌≤◌, ◌==◌, ℕ, false, 
 ghost use Rattle.std.specs.Prelude.{IsFalse, slice_get};
 ghost use Rattle.std.specs.FinMap as map;
 ghost use Rattle.std.specs.Map.{lookup};
-ghost use Rattle.ini_text.specs.Content.{Section};
 ghost use Rattle.cia301.specs.CobIds.{is_restricted};
+ghost use Rattle.eds_device.specs.Sheets.{Sheet};
 ghost use Rattle.project_messages.specs.Messages.{is_of_messages, Named, IsLinked};
 ghost use Rattle.project_messages.specs.declared.linked.Linked.{Linked};
 ghost use Rattle.pdo_choices.specs.declared.clean.Clean.{Clean as Sent};
@@ -86,15 +86,15 @@ pub fn mappings_fit_frames()
 
 /// Each PDO that the plan gives a node is one that its device has.
 pub fn plans_are_made_for_their_devices()
-    ensures { (nodes : List (ℕ × List Section)) (ms : List (List ℕ × Linked)) (node : ℕ) (ss : List Section)
-        → lookup (λ n. n == node) nodes ≡ Some ss
-        → IsMadeFor (plan_of (devices_of false nodes) ms) ss node }
+    ensures { (nodes : List (ℕ × Sheet)) (ms : List (List ℕ × Linked)) (node : ℕ) (sheet : Sheet)
+        → lookup (λ n. n == node) nodes ≡ Some sheet
+        → IsMadeFor (plan_of (devices_of false nodes) ms) sheet node }
 {}
 
 /// The plan asks only of the nodes that its messages name: those that send a message, or take a part
 /// of one.
 pub fn the_plan_asks_only_of_the_nodes_that_messages_name()
-    ensures { (a b : List (ℕ × List Section)) (messages : Named)
+    ensures { (a b : List (ℕ × Sheet)) (messages : Named)
         → ((node : ℕ) → is_of_messages node messages ≡ true → lookup (λ n. n == node) a ≡ lookup (λ n. n == node) b)
         → plan_of (devices_of false a) (map.entries messages) ≡ plan_of (devices_of false b) (map.entries messages) }
 {}

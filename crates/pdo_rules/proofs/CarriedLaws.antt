@@ -15,11 +15,12 @@ use Rattle.byteorder.specs.Numbers.{little_from-lt, little_number-reads_back}
 use Rattle.base.specs.Bytes.{AreBytes}
 use Rattle.base.proofs.Little.{spelled_again}
 use Rattle.co_values.specs.declared.form.Form.{Form}
-use Rattle.co_values.specs.declared.form.Form.TheVariants.{Flag, Signed, Unsigned, Characters, HexPairs, Unmodelled}
+use Rattle.co_values.specs.declared.form.Form.TheVariants.{Flag, Signed, Unsigned, Decimal, Characters, HexPairs, Unmodelled}
 use Rattle.co_values.specs.declared.form.Width.{Width}
-use Rattle.co_values.specs.declared.form.Width.TheVariants.{Bits8, Bits16, Bits32, Bits64}
-use Rattle.co_values.specs.Types.{bits_of_form, form, octets, width_bits}
-use Rattle.co_values.specs.Values.{FitsForm}
+use Rattle.co_values.specs.declared.form.Width.TheVariants.{Bits8, Bits16, Bits24, Bits32, Bits40, Bits48, Bits56, Bits64}
+use Rattle.co_values.specs.Types.{bits_of_form, form, octets, real_octets, width_bits}
+use Rattle.co_values.specs.Values.{IsLaidOut}
+use Rattle.co_values.proofs.Printed.{real_width}
 use Rattle.co_dict.specs.declared.direction.Direction.TheVariants.{Receive}
 use Rattle.co_dict.specs.declared.entry.Entry.{Entry}
 use Rattle.co_dict.specs.Checks.{is_entry_that}
@@ -265,14 +266,30 @@ whole : (width : Width) (bytes : List ℕ) → AreBytes bytes → length bytes �
     → little_bytes (octets width) (little_number 8 bytes % 2 ^ (8 * octets width)) ≡ bytes
 whole Bits8 bytes are size = spelled 1 7 bytes refl refl are size
 whole Bits16 bytes are size = spelled 2 6 bytes refl refl are size
+whole Bits24 bytes are size = spelled 3 5 bytes refl refl are size
 whole Bits32 bytes are size = spelled 4 4 bytes refl refl are size
+whole Bits40 bytes are size = spelled 5 3 bytes refl refl are size
+whole Bits48 bytes are size = spelled 6 2 bytes refl refl are size
+whole Bits56 bytes are size = spelled 7 1 bytes refl refl are size
 whole Bits64 bytes are size = spelled 8 0 bytes refl refl are size
 
 few_octets : (width : Width) → (8 * octets width + 7) / 8 ≡ octets width
 few_octets Bits8 = refl
 few_octets Bits16 = refl
+few_octets Bits24 = refl
 few_octets Bits32 = refl
+few_octets Bits40 = refl
+few_octets Bits48 = refl
+few_octets Bits56 = refl
 few_octets Bits64 = refl
+
+-- the same of as many bits as the bytes have
+whole_bytes : (width : Width) (count : ℕ) (bytes : List ℕ) → AreBytes bytes → length bytes ≡ octets width
+    → 8 * octets width ≡ count → little_bytes (bytes_begun count) (little_number 8 bytes % 2 ^ count) ≡ bytes
+whole_bytes width count bytes are size bits =
+    subst (λ n. little_bytes (bytes_begun n) (little_number 8 bytes % 2 ^ n)
+    ≡ bytes) bits (ap (λ n. little_bytes n (little_number 8 bytes % 2 ^ (8 * octets width))) (few_octets width)
+    ∙ whole width bytes are size)
 
 flag_value : (bytes : List ℕ) → length bytes ≡ 1 → slice_index bytes 0 < 2
     → little_bytes 1 (little_number 8 bytes % 2 ^ 1) ≡ bytes
@@ -284,21 +301,21 @@ flag_value (b ∷ []) size low =
     ap (little_bytes 1) number ∙ ap (λ n. n ∷ []) byte
 
 -- a value of a form with so many bits, spelled in as many bytes as they begin
-kept_whole : (f : Form) (count : ℕ) (bytes : List ℕ) → AreBytes bytes → FitsForm f bytes → bits_of_form f ≡ Some count
+kept_whole : (f : Form) (count : ℕ) (bytes : List ℕ) → AreBytes bytes → IsLaidOut f bytes → bits_of_form f ≡ Some count
     → little_bytes (bytes_begun count) (little_number 8 bytes % 2 ^ count) ≡ bytes
 kept_whole Flag count bytes are fits e = let one : 1 ≡ count = cc
     in subst (λ n. little_bytes (bytes_begun n) (little_number 8 bytes % 2 ^ n)
     ≡ bytes) one (flag_value bytes fits.0 fits.1)
 kept_whole (Signed width) count bytes are fits e =
     let size : 8 * octets width ≡ count = cc in
-    subst (λ n. little_bytes (bytes_begun n) (little_number 8 bytes % 2 ^ n)
-    ≡ bytes) size (ap (λ n. little_bytes n (little_number 8 bytes % 2 ^ (8 * octets width))) (few_octets width)
-    ∙ whole width bytes are fits)
+    whole_bytes width count bytes are fits size
 kept_whole (Unsigned width) count bytes are fits e =
     let size : 8 * octets width ≡ count = cc in
-    subst (λ n. little_bytes (bytes_begun n) (little_number 8 bytes % 2 ^ n)
-    ≡ bytes) size (ap (λ n. little_bytes n (little_number 8 bytes % 2 ^ (8 * octets width))) (few_octets width)
-    ∙ whole width bytes are fits)
+    whole_bytes width count bytes are fits size
+kept_whole (Decimal real) count bytes are fits e =
+    let same = real_width real in
+    let size : 8 * real_octets real ≡ count = cc in
+    whole_bytes same.0 count bytes are (fits ∙ same.1) (sym (ap (λ n. 8 * n) same.1) ∙ size)
 kept_whole Characters count bytes are fits e = cc
 kept_whole HexPairs count bytes are fits e = cc
 kept_whole Unmodelled count bytes are fits e = absurd fits

@@ -10,10 +10,10 @@ use Rattle.std.specs.Option.{option_map_or}
 use Rattle.std.proofs.lemmas.Bool.Decides.{nat_tests}
 use Rattle.std.proofs.lemmas.List.{drop_more}
 use Rattle.std.proofs.lemmas.Option.{slice_get-get_or, same_Some}
-use Rattle.ini_text.specs.Content.{Content, Section}
 use Rattle.co_dict.specs.Shapes.{Shaped, is_dummy_allowed}
 use Rattle.eds_device.specs.Entries.{entry_at, dummies_of, dummy_allowed, shape_of}
 use Rattle.eds_device.proofs.LawLemmas.{shape_at as shaped_at}
+use Rattle.eds_device.specs.Sheets.{Sheet}
 use Rattle.pdo_stations.specs.Devices.{as_made, devices_of}
 use Rattle.pdo_stations.specs.declared.as_made.AsMade.{AsMade}
 use Rattle.pdo_stations.specs.declared.stations.Stations.{Stations}
@@ -23,58 +23,58 @@ use Rattle.pdo_stations.specs.Stations.{devices_in}
 
 -- ---- dummies
 
-dummies_at : (ss : List Section) (kind : ℕ) → 1 ≤ kind → kind ≤ 7
-    → get_or (dummies_of ss) (kind - 1) false ≡ dummy_allowed ss kind
-dummies_at ss zero low high = absurd (omega arith)
-dummies_at ss (suc zero) low high = refl
-dummies_at ss (suc (suc zero)) low high = refl
-dummies_at ss (suc (suc (suc zero))) low high = refl
-dummies_at ss (suc (suc (suc (suc zero)))) low high = refl
-dummies_at ss (suc (suc (suc (suc (suc zero))))) low high = refl
-dummies_at ss (suc (suc (suc (suc (suc (suc zero)))))) low high = refl
-dummies_at ss (suc (suc (suc (suc (suc (suc (suc zero))))))) low high = refl
-dummies_at ss (suc (suc (suc (suc (suc (suc (suc (suc n)))))))) low high = absurd (omega arith)
+dummies_at : (sheet : Sheet) (kind : ℕ) → 1 ≤ kind → kind ≤ 7
+    → get_or (dummies_of sheet.sections) (kind - 1) false ≡ dummy_allowed sheet.sections kind
+dummies_at sheet zero low high = absurd (omega arith)
+dummies_at sheet (suc zero) low high = refl
+dummies_at sheet (suc (suc zero)) low high = refl
+dummies_at sheet (suc (suc (suc zero))) low high = refl
+dummies_at sheet (suc (suc (suc (suc zero)))) low high = refl
+dummies_at sheet (suc (suc (suc (suc (suc zero))))) low high = refl
+dummies_at sheet (suc (suc (suc (suc (suc (suc zero)))))) low high = refl
+dummies_at sheet (suc (suc (suc (suc (suc (suc (suc zero))))))) low high = refl
+dummies_at sheet (suc (suc (suc (suc (suc (suc (suc (suc n)))))))) low high = absurd (omega arith)
 
-low_kind : (ss : List Section) (kind : ℕ) → nat_le 1 kind ≡ false → false ≡ dummy_allowed ss kind
+low_kind : (sheet : Sheet) (kind : ℕ) → nat_le 1 kind ≡ false → false ≡ dummy_allowed sheet.sections kind
 unfolding dummy_allowed
-low_kind ss kind e = rw e refl
+low_kind sheet kind e = rw e refl
 
-high_kind : (ss : List Section) (kind : ℕ) → nat_le 1 kind ≡ true → nat_le kind 7 ≡ false
-    → false ≡ dummy_allowed ss kind
+high_kind : (sheet : Sheet) (kind : ℕ) → nat_le 1 kind ≡ true → nat_le kind 7 ≡ false
+    → false ≡ dummy_allowed sheet.sections kind
 unfolding dummy_allowed
-high_kind ss kind d e = rw (d, e) refl
+high_kind sheet kind d e = rw (d, e) refl
 
-dummy_shaped : (ss : List Section) (node kind : ℕ) → is_dummy_allowed (shape_of ss node) kind ≡ dummy_allowed ss kind
+dummy_shaped : (sheet : Sheet) (node kind : ℕ) → is_dummy_allowed (shape_of sheet node) kind ≡ dummy_allowed sheet.sections kind
 unfolding shape_of
-dummy_shaped ss node kind = by (nat_le 1 kind) (nat_le kind 7) refl refl
+dummy_shaped sheet node kind = by (nat_le 1 kind) (nat_le kind 7) refl refl
   where
     up : (m n : ℕ) → nat_le m n ≡ true → m ≤ n
     up m n t = grind (arith, nat_tests)
 
     by : (a b : Bool) → nat_le 1 kind ≡ a → nat_le kind 7 ≡ b
-        → (a && b && get_or (dummies_of ss) (kind - 1) false) ≡ dummy_allowed ss kind
-    by true true low high = dummies_at ss kind (up 1 kind low) (up kind 7 high)
-    by true false low high = high_kind ss kind low high
-    by false b low high = low_kind ss kind low
+        → (a && b && get_or (dummies_of sheet.sections) (kind - 1) false) ≡ dummy_allowed sheet.sections kind
+    by true true low high = dummies_at sheet kind (up 1 kind low) (up kind 7 high)
+    by true false low high = high_kind sheet kind low high
+    by false b low high = low_kind sheet kind low
 
 -- ---- devices
 
-abbrev pub shaped : ℕ → List (ℕ × List Section) → Option Shaped
-shaped node nodes = option_map (λ ss. shape_of ss node) (lookup (λ n. n == node) nodes)
+abbrev pub shaped : ℕ → List (ℕ × Sheet) → Option Shaped
+shaped node nodes = option_map (λ sheet. shape_of sheet node) (lookup (λ n. n == node) nodes)
 
-entry_shaped : (node : ℕ) (place : ℕ × ℕ) (o : Option (List Section))
-    → option_and_then (λ (s : Shaped). get s.entries place) (option_map (λ ss. shape_of ss node) o)
-    ≡ option_and_then (λ ss. entry_at ss node place.0 place.1) o
+entry_shaped : (node : ℕ) (place : ℕ × ℕ) (o : Option Sheet)
+    → option_and_then (λ (s : Shaped). get s.entries place) (option_map (λ sheet. shape_of sheet node) o)
+    ≡ option_and_then (λ sheet. entry_at sheet node place.0 place.1) o
 entry_shaped node place None = refl
-entry_shaped node place (Some ss) = shaped_at ss node place.0 place.1
+entry_shaped node place (Some sheet) = shaped_at sheet node place.0 place.1
 
-allowed_shaped : (node kind : ℕ) (o : Option (List Section))
-    → option_map_or (λ (s : Shaped). is_dummy_allowed s kind) (option_map (λ ss. shape_of ss node) o) false
-    ≡ option_map_or (λ ss. dummy_allowed ss kind) o false
+allowed_shaped : (node kind : ℕ) (o : Option Sheet)
+    → option_map_or (λ (s : Shaped). is_dummy_allowed s kind) (option_map (λ sheet. shape_of sheet node) o) false
+    ≡ option_map_or (λ sheet. dummy_allowed sheet.sections kind) o false
 allowed_shaped node kind None = refl
-allowed_shaped node kind (Some ss) = dummy_shaped ss node kind
+allowed_shaped node kind (Some sheet) = dummy_shaped sheet node kind
 
-pub devices_alike : (stations : Stations) (is_three : Bool) (nodes : List (ℕ × List Section))
+pub devices_alike : (stations : Stations) (is_three : Bool) (nodes : List (ℕ × Sheet))
     → ((node : ℕ) → shape_at stations.seats node ≡ shaped node nodes)
     → (devices_in stations).vendor ≡ (devices_of is_three nodes).vendor → devices_in stations ≡ devices_of is_three nodes
 devices_alike stations is_three nodes same vendors =
@@ -93,21 +93,21 @@ devices_alike stations is_three nodes same vendors =
 
 -- ---- devices as they were made
 
-abbrev pub made : ℕ → List (ℕ × List Section) → Option AsMade
-made node nodes = option_map (λ ss. as_made ss node) (lookup (λ n. n == node) nodes)
+abbrev pub made : ℕ → List (ℕ × Sheet) → Option AsMade
+made node nodes = option_map (λ sheet. as_made sheet node) (lookup (λ n. n == node) nodes)
 
-pub made_more : (before after : List (Option AsMade)) (number : ℕ) (ss : List Section) (nodes : List (ℕ × List Section))
-    → ((node : ℕ) → get_or after node None ≡ (if number == node then Some (as_made ss number) else get_or before node None))
+pub made_more : (before after : List (Option AsMade)) (number : ℕ) (sheet : Sheet) (nodes : List (ℕ × Sheet))
+    → ((node : ℕ) → get_or after node None ≡ (if number == node then Some (as_made sheet number) else get_or before node None))
     → ((node : ℕ) → get_or before node None ≡ made node nodes)
-    → (node : ℕ) → get_or after node None ≡ made node ((number, ss) ∷ nodes)
-made_more before after number ss nodes put so_far node = put node ∙ by (number == node) refl
+    → (node : ℕ) → get_or after node None ≡ made node ((number, sheet) ∷ nodes)
+made_more before after number sheet nodes put so_far node = put node ∙ by (number == node) refl
   where
     same_number : (a b : ℕ) → (a == b) ≡ true → a ≡ b
     same_number a b e = grind (arith, nat_tests)
 
-    by : (b : Bool) → (number == node) ≡ b → (if b then Some (as_made ss number) else get_or before node None)
-        ≡ option_map (λ ss. as_made ss node) (cond b (Some ss) (lookup (λ n. n == node) nodes))
-    by true e = ap (λ n. Some (as_made ss n)) (same_number number node e)
+    by : (b : Bool) → (number == node) ≡ b → (if b then Some (as_made sheet number) else get_or before node None)
+        ≡ option_map (λ sheet. as_made sheet node) (cond b (Some sheet) (lookup (λ n. n == node) nodes))
+    by true e = ap (λ n. Some (as_made sheet n)) (same_number number node e)
     by false e = so_far node
 
 -- ---- one more node
@@ -115,24 +115,24 @@ made_more before after number ss nodes put so_far node = put node ∙ by (number
 same_number : (a b : ℕ) → (a == b) ≡ true → a ≡ b
 same_number a b e = grind (arith, nat_tests)
 
-pub stations_more : (before after : List (ℕ × Shaped)) (number : ℕ) (ss : List Section)
-    (nodes : List (ℕ × List Section))
-    → ((node : ℕ) → shape_at after node ≡ (if number == node then Some (shape_of ss number) else shape_at before node))
+pub stations_more : (before after : List (ℕ × Shaped)) (number : ℕ) (sheet : Sheet)
+    (nodes : List (ℕ × Sheet))
+    → ((node : ℕ) → shape_at after node ≡ (if number == node then Some (shape_of sheet number) else shape_at before node))
     → ((node : ℕ) → shape_at before node ≡ shaped node nodes)
-    → (node : ℕ) → shape_at after node ≡ shaped node ((number, ss) ∷ nodes)
-stations_more before after number ss nodes put so_far node = put node ∙ by (number == node) refl
+    → (node : ℕ) → shape_at after node ≡ shaped node ((number, sheet) ∷ nodes)
+stations_more before after number sheet nodes put so_far node = put node ∙ by (number == node) refl
   where
-    by : (b : Bool) → (number == node) ≡ b → (if b then Some (shape_of ss number) else shape_at before node)
-        ≡ option_map (λ ss. shape_of ss node) (cond b (Some ss) (lookup (λ n. n == node) nodes))
-    by true e = ap (λ n. Some (shape_of ss n)) (same_number number node e)
+    by : (b : Bool) → (number == node) ≡ b → (if b then Some (shape_of sheet number) else shape_at before node)
+        ≡ option_map (λ sheet. shape_of sheet node) (cond b (Some sheet) (lookup (λ n. n == node) nodes))
+    by true e = ap (λ n. Some (shape_of sheet n)) (same_number number node e)
     by false e = so_far node
 
 -- the node before the last ones
-pub node_before : (nodes : List (ℕ × Bor Content)) (i : ℕ) (a b : ℕ × Bor Content) → i < length nodes
-    → nodes_of (drop i nodes) ≡ ((get_or nodes i a).0, (get_or nodes i b).1.now.sections)
+pub node_before : (nodes : List (ℕ × Bor Sheet)) (i : ℕ) (a b : ℕ × Bor Sheet) → i < length nodes
+    → nodes_of (drop i nodes) ≡ ((get_or nodes i a).0, (get_or nodes i b).1.now)
     ∷ nodes_of (drop (i + 1) nodes)
 node_before nodes i a b below =
     let same : get_or nodes i a ≡ get_or nodes i b = same_Some (get_or nodes i a) (get_or nodes i b)
     (sym (slice_get-get_or nodes i a below) ∙ slice_get-get_or nodes i b below) in
-    ap nodes_of (drop_more nodes i a below) ∙ ap (λ (n : ℕ × Bor Content). ((get_or nodes i a).0, n.1.now.sections)
+    ap nodes_of (drop_more nodes i a below) ∙ ap (λ (n : ℕ × Bor Sheet). ((get_or nodes i a).0, n.1.now)
     ∷ nodes_of (drop (i + 1) nodes)) same

@@ -7,7 +7,7 @@ use Rattle.co_dict.specs.declared.direction.Direction.TheVariants.{Transmit}
 use Rattle.project_messages.specs.Messages.{sink_at}
 use Rattle.pdo_stations.specs.declared.carried.Carried.{Carried}
 use Rattle.pdo_stations.specs.declared.mapped.Mapped.{Mapped}
-use Rattle.pdo_stations.specs.Devices.{Devices, can_map, width_at}
+use Rattle.pdo_stations.specs.Devices.{Devices, can_map, type_at, width_at}
 use Rattle.pdo_stations.specs.Dummies.{mapped_to, dummy_for}
 
 -- a source is a position with the place of an entry of the sender
@@ -15,6 +15,7 @@ abbrev pub carried_by : Devices → ℕ → ℕ × (ℕ × ℕ) → Carried
 carried_by devices sender source = record {
   position = source.0;
   place = source.1;
+  kind = type_at devices sender source.1;
   bits = width_at devices sender source.1;
   sendable = can_map Transmit devices sender source.1;
 }

@@ -19,7 +19,7 @@ impl AsMade {
     /// The device of a data sheet at a node. Takes time and memory as its shape and its defaults do; want of memory is
     /// the only error.
     pub fn of(device: &DataSheet, node: u8) -> Result<AsMade, AllocError>
-        ensures { IfOk result (λ made. made ≡ as_made device.now.sections node) }
+        ensures { IfOk result (λ made. made ≡ as_made device.now node) }
     {
         Ok(AsMade {
             shape: device.shared_shape(node)?,

@@ -7,6 +7,7 @@ ghost use Rattle.pdo_stations.specs.Stations.{devices_in};
 use crate::mapped::Mapped;
 use crate::stations::Stations;
 use co_dict::Direction;
+use co_values::DataType;
 use project_messages::Sources;
 use std::alloc::{AllocError, Global};
 
@@ -17,6 +18,8 @@ pub struct Carried {
     pub position: u8,
     /// The index and sub-index of the sender's entry.
     pub place: (u16, u8),
+    /// The type of the entry; `NotModelled` too where it isn't there.
+    pub kind: DataType,
     /// The bits of the entry in a PDO. An entry that isn't there, or no PDO can map, has none.
     pub bits: Option<u8>,
     /// Whether the entry is there and a TPDO can map it.
@@ -40,6 +43,7 @@ pub fn carried_sources(
         carried.push(Carried {
             position: *position,
             place: *place,
+            kind: entry.kind,
             bits: entry.width,
             sendable: entry.can_map,
         })?;

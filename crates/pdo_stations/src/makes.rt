@@ -2,7 +2,7 @@
 ghost use Rattle.std.specs.Prelude.{◌≡◌, ◌==◌, ℕ, length, if◌then◌else◌, None, Some, IfOk, OnOk};
 ghost use Rattle.std.specs.Prelude.{option_map};
 ghost use Rattle.std.specs.Option.{option_copied};
-ghost use Rattle.pdo_stations.specs.Devices.{as_made, devices_of, sections_at};
+ghost use Rattle.pdo_stations.specs.Devices.{as_made, devices_of, sheet_at};
 ghost use Rattle.pdo_stations.specs.Seats.{made_at};
 ghost use Rattle.pdo_stations.specs.Shown.{nodes_of};
 
@@ -28,7 +28,7 @@ fn put_made(makes: &mut [Option<AsMade>], number: u8, device: &DataSheet) -> Res
     requires { length makes.now ≡ 256 }
     ensures count { OnOk result (length makes.new ≡ 256) }
     ensures made { OnOk result ((node : ℕ) → made_at makes.new node
-        ≡ (if number == node then Some (as_made device.now.sections number)
+        ≡ (if number == node then Some (as_made device.now number)
         else made_at makes.old node)) }
 {
     let made = AsMade::of(device, number)?;
@@ -42,7 +42,7 @@ fn look_up_makes(
     nodes: &[(u8, &DataSheet)],
 ) -> Result<Vec<Option<AsMade>>, AllocError>
     ensures { IfOk result (λ makes. (node : ℕ) → made_at makes.items node
-        ≡ option_map (λ ss. as_made ss node) (sections_at (nodes_of nodes.now) node)) }
+        ≡ option_map (λ sheet. as_made sheet node) (sheet_at (nodes_of nodes.now) node)) }
 {
     let mut makes = no_makes(alloc)?;
     let mut count = nodes.len();

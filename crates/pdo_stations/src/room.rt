@@ -17,7 +17,11 @@ pub fn is_unsigned(kind: DataType, width: Width) -> bool
     match kind {
         DataType::Unsigned8 => matches!(width, Width::Bits8),
         DataType::Unsigned16 => matches!(width, Width::Bits16),
+        DataType::Unsigned24 => matches!(width, Width::Bits24),
         DataType::Unsigned32 => matches!(width, Width::Bits32),
+        DataType::Unsigned40 => matches!(width, Width::Bits40),
+        DataType::Unsigned48 => matches!(width, Width::Bits48),
+        DataType::Unsigned56 => matches!(width, Width::Bits56),
         DataType::Unsigned64 => matches!(width, Width::Bits64),
         _ => false,
     }

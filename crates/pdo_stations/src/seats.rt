@@ -3,7 +3,7 @@ ghost use Rattle.std.specs.Prelude.{◌≡◌, ◌==◌, ℕ, [], length, slice_
 ghost use Rattle.std.specs.Prelude.{option_map};
 ghost use Rattle.std.specs.Option.{option_copied};
 ghost use Rattle.eds_device.specs.Entries.{shape_of};
-ghost use Rattle.pdo_stations.specs.Devices.{sections_at};
+ghost use Rattle.pdo_stations.specs.Devices.{sheet_at};
 ghost use Rattle.pdo_stations.specs.Shown.{nodes_of};
 ghost use Rattle.pdo_stations.specs.Seats.{shape_at, seats_by_number};
 
@@ -83,7 +83,7 @@ fn add_station(
     requires { length seats.now ≡ 256 }
     ensures count { OnOk result (length seats.new ≡ 256) }
     ensures station { OnOk result ((node : ℕ) → shape_at (seats_by_number 0 seats.new) node
-        ≡ (if number == node then Some (shape_of device.now.sections number)
+        ≡ (if number == node then Some (shape_of device.now number)
         else shape_at (seats_by_number 0 seats.old) node)) }
 {
     let shape = device.shared_shape(number)?;
@@ -95,7 +95,7 @@ fn add_station(
 /// Looks the devices of the nodes up. Of two nodes with one number the first counts.
 fn look_up(alloc: Global, nodes: &[(u8, &DataSheet)]) -> Result<Vec<Option<Station>>, AllocError>
     ensures { IfOk result (λ seats. (node : ℕ) → shape_at (seats_by_number 0 seats.items) node
-        ≡ option_map (λ ss. shape_of ss node) (sections_at (nodes_of nodes.now) node)) }
+        ≡ option_map (λ sheet. shape_of sheet node) (sheet_at (nodes_of nodes.now) node)) }
 {
     let mut seats = empty_seats(alloc)?;
     let mut last = 0;
@@ -114,7 +114,7 @@ impl Seats {
     /// the number of the devices' entries and its logarithm.
     pub(crate) fn new(alloc: Global, nodes: &[(u8, &DataSheet)]) -> Result<Seats, AllocError>
         ensures { IfOk result (λ seats. (node : ℕ) → shape_at seats node
-            ≡ option_map (λ ss. shape_of ss node) (sections_at (nodes_of nodes.now) node)) }
+            ≡ option_map (λ sheet. shape_of sheet node) (sheet_at (nodes_of nodes.now) node)) }
     {
         let seats = look_up(alloc, nodes)?;
         Ok(Seats { seats })

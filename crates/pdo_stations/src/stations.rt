@@ -2,7 +2,7 @@
 ghost use Rattle.std.specs.Prelude.{◌≡◌, ◌==◌, ◌≤◌, is_some, option_and_then, IfOk};
 ghost use Rattle.std.specs.Option.{option_copied};
 ghost use Rattle.co_values.specs.Types.{width_bits};
-ghost use Rattle.pdo_stations.specs.Devices.{devices_of, can_map, has_pdo, has_start, has_times, width_at};
+ghost use Rattle.pdo_stations.specs.Devices.{devices_of, can_map, has_pdo, has_start, has_times, type_at, width_at};
 ghost use Rattle.cia301.specs.PdoObjects.{tpdo_object};
 ghost use Rattle.pdo_stations.specs.Dummies.{dummy_for};
 ghost use Rattle.pdo_stations.specs.Shown.{nodes_of};
@@ -17,7 +17,7 @@ use crate::mapped::Mapped;
 use crate::seats::Seats;
 use crate::station::Station;
 use co_dict::{Direction, Entry};
-use co_values::width_bits;
+use co_values::{DataType, width_bits};
 use eds_device::DataSheet;
 use std::alloc::{AllocError, Global};
 
@@ -34,7 +34,7 @@ pub struct Stations {
     pub(crate) makes: Option<Vec<Option<AsMade>>>,
 }
 
-/// The bits of an entry in a PDO, where it is BOOLEAN or an integer.
+/// The bits of an entry in a PDO, where it is BOOLEAN, an integer or a REAL.
 fn entry_width(entry: &Entry) -> Option<u8>
     ensures { result ≡ width_bits entry.now.kind }
 {
@@ -86,7 +86,7 @@ impl Stations {
         self.get(node)?.entry(place.0, place.1)
     }
 
-    /// The bits of an entry of a node in a PDO, where it is there and BOOLEAN or an integer.
+    /// The bits of an entry of a node in a PDO, where it is there and BOOLEAN, an integer or a REAL.
     pub fn width(&self, node: u8, place: (u16, u8)) -> Option<u8>
         ensures { result ≡ width_at (devices_in self.now) node place }
     {
@@ -103,19 +103,22 @@ impl Stations {
         }
     }
 
-    /// What a PDO of a direction can carry of an entry of a node: `can_map` and `width` of it, by one
+    /// What a PDO of a direction can carry of an entry of a node: `can_map`, the type and `width` of it, by one
     /// look-up.
     pub fn mappable(&self, direction: Direction, node: u8, place: (u16, u8)) -> Mappable
         ensures can_map { result.can_map ≡ can_map direction (devices_in self.now) node place }
+        ensures kind { result.kind ≡ type_at (devices_in self.now) node place }
         ensures width { result.width ≡ width_at (devices_in self.now) node place }
     {
         match self.entry(node, place) {
             Some(entry) => Mappable {
                 can_map: entry.is_mappable(direction),
+                kind: entry.kind,
                 width: entry_width(entry),
             },
             None => Mappable {
                 can_map: false,
+                kind: DataType::NotModelled,
                 width: None,
             },
         }

@@ -1,5 +1,5 @@
 -- What edits leave of what the files are made of.
-use Rattle.std.proofs.Common.{◌≡◌, ℕ, Bool, true, false, cond, ◌==◌, ◌||◌, List, [], ◌∷◌, map, filter_map, Option}
+use Rattle.std.proofs.Common.{◌≡◌, ℕ, Bool, true, false, cond, ◌==◌, List, [], ◌∷◌, map, filter_map, Option}
 use Rattle.std.proofs.Common.{Some, None, option_map, option_and_then, refl, sym, ap, ◌∙◌}
 use Rattle.std.specs.FinMap.{entries, get, get-insert, get-remove, insert, remove}
 use Rattle.std.specs.Ordering.{eq_by_cmp, nat_cmp}
@@ -7,7 +7,7 @@ use Rattle.std.proofs.lemmas.Bool.{eq-eqb}
 use Rattle.std.proofs.lemmas.Cmp.{nat_cmp_total, nat_list_cmp_total}
 use Rattle.std.proofs.lemmas.Map.Lookups.{exact_unsigned}
 use Rattle.base.proofs.TableLemmas.{alike}
-use Rattle.ini_text.specs.Content.{Content as DataSheet}
+use Rattle.eds_device.specs.Sheets.{Sheet}
 use Rattle.project_edits.specs.declared.edit.Edit.{Edit}
 use Rattle.project_edits.specs.declared.edit.Edit.TheVariants as edit
 use Rattle.project_edits.specs.declared.script_version.ScriptVersion.{ScriptVersion}
@@ -17,12 +17,13 @@ use Rattle.node_parameters.specs.Params.{Texts as Params}
 use Rattle.co_project.specs.declared.node.Node.{Node}
 use Rattle.co_project.specs.Project.{first, Content as Project}
 use Rattle.co_project.specs.Tables.{node_at, text_at, with_need, Nodes, Texts}
+use Rattle.part_shelves.specs.SheetText.{sheet_text}
 use Rattle.project_parts.specs.Made.{plan_made, writes_made}
 use Rattle.project_parts.specs.Given.{dcf_of_node, inputs_of, plan_from, writes_from, writes_of_node}
 use Rattle.project_plan.specs.Network.{device_at}
 use Rattle.project_parts.specs.Reached.{of_node, of_nodes}
-use Rattle.project_parts.specs.Given.{OfConcise, OfDcf, OfDevice, OfPlan, OfWrites}
-use Rattle.project_parts.specs.Touched.{goes_into, is_of_network, is_of_node, is_of_text, is_planned, is_roster, says_rate, is_touched}
+use Rattle.project_parts.specs.Given.{OfConcise, OfDcf, OfDevice, OfPlan, OfWrites, Given}
+use Rattle.project_parts.specs.Touched.{goes_into, is_of_network, is_of_node, is_of_text, is_planned, reads_version, says_rate, is_touched}
 use Rattle.project_parts.specs.Touch.{touch_of}
 use Rattle.project_parts.specs.declared.dcf_from.DcfFrom.{DcfFrom}
 use Rattle.project_parts.specs.declared.plan_from.PlanFrom.{PlanFrom}
@@ -88,27 +89,34 @@ module _ (p new : Project) where
       in_core new q file ∙ same_core v t n m q ∙ any_rate p.version new.bitrate p.bitrate p.texts p.nodes p.messages q h file
       ∙ sym (in_core p q file)
 
-  -- devices, where the texts are the same
-  pub devices_left : new.texts ≡ p.texts → (q : Part) → is_planned q ≡ false → is_filed q ≡ true
+  -- what a device is to be read from
+  abbrev device_by : ScriptVersion → Option (List ℕ) → Option Given
+  device_by v text = option_map OfDevice (option_map (sheet_text (is_three v)) text)
+
+  -- devices, where the version and the texts are the same
+  pub devices_left : new.version ≡ p.version → new.texts ≡ p.texts → (q : Part) → is_planned q ≡ false → is_filed q ≡ true
       → inputs_of new q ≡ inputs_of p q
-  devices_left t (part.Device e) h file = ap (λ (x : Texts). option_map OfDevice (text_at x e)) t
-  devices_left t part.Plan h file = cc
-  devices_left t (part.Writes n) h file = cc
-  devices_left t (part.Concise n) h file = cc
-  devices_left t (part.Dcf n) h file = cc
-  devices_left t others h file = cc
+  devices_left v t (part.Device e) h file =
+      ap (λ (x : ScriptVersion). device_by x (text_at new.texts e)) v
+      ∙ ap (λ (x : Texts). device_by p.version (text_at x e)) t
+  devices_left v t part.Plan h file = cc
+  devices_left v t (part.Writes n) h file = cc
+  devices_left v t (part.Concise n) h file = cc
+  devices_left v t (part.Dcf n) h file = cc
+  devices_left v t others h file = cc
 
   -- other devices, where a text is another
-  pub texts_left : (name : List ℕ) (o : Option (List ℕ))
+  pub texts_left : new.version ≡ p.version → (name : List ℕ) (o : Option (List ℕ))
       → ((e : List ℕ) → text_at new.texts e ≡ cond (eq_by_cmp name_cmp e name) o (text_at p.texts e))
       → (q : Part) → is_of_text name q ≡ false → is_filed q ≡ true → inputs_of new q ≡ inputs_of p q
-  texts_left name o t (part.Device e) h file =
-      ap (option_map OfDevice) (t e ∙ ap (λ b. cond b o (text_at p.texts e)) h)
-  texts_left name o t part.Plan h file = cc
-  texts_left name o t (part.Writes n) h file = cc
-  texts_left name o t (part.Concise n) h file = cc
-  texts_left name o t (part.Dcf n) h file = cc
-  texts_left name o t others h file = cc
+  texts_left v name o t (part.Device e) h file =
+      ap (λ (x : ScriptVersion). device_by x (text_at new.texts e)) v
+      ∙ ap (device_by p.version) (t e ∙ ap (λ b. cond b o (text_at p.texts e)) h)
+  texts_left v name o t part.Plan h file = cc
+  texts_left v name o t (part.Writes n) h file = cc
+  texts_left v name o t (part.Concise n) h file = cc
+  texts_left v name o t (part.Dcf n) h file = cc
+  texts_left v name o t others h file = cc
 
 -- ---- a node of the same EDS in the place of one
 
@@ -116,10 +124,10 @@ module _ (p : Project) (id : ℕ) (node other : Node) (there : get p.nodes id �
   abbrev changed : Project
   changed = record p { nodes = insert p.nodes id other }
 
-  abbrev by_eds : ℕ × List ℕ → Option (ℕ × DataSheet)
+  abbrev by_eds : ℕ × List ℕ → Option (ℕ × Sheet)
   by_eds e = option_map (λ d. (e.0, d)) (device_at p e.1)
 
-  abbrev plan_with : List (ℕ × DataSheet) → PlanFrom
+  abbrev plan_with : List (ℕ × Sheet) → PlanFrom
   plan_with ds = record { is_three = is_three p.version; devices = ds; messages = p.messages }
 
   same_plan : plan_from changed ≡ plan_from p
@@ -230,9 +238,10 @@ not_planned id (part.Concise n) file h = cc
 not_planned id (part.Dcf n) file h = cc
 not_planned id others file h = cc
 
-second_not : (s t : Bool) → (s || t) ≡ false → t ≡ false
-second_not true t h = cc
-second_not false t h = h
+-- and the version into each
+each_versioned : (q : Part) → is_filed q ≡ true → reads_version q ≡ false → ⊥
+each_versioned part.Diagnostics file h = cc
+each_versioned others file h = cc
 
 module _ (p : Project) (q : Part) (file : is_filed q ≡ true) where
   params_as : (id : ℕ) (change : Params → Params) (o : Option Node) → get p.nodes id ≡ o → is_of_node id q ≡ false
@@ -254,35 +263,35 @@ module _ (p : Project) (q : Part) (file : is_filed q ≡ true) where
   -- an edit leaves what it doesn't touch as it was
   pub file_left : (e : Edit) → goes_into p.events (touch_of e) q ≡ false → inputs_of (made p e) q ≡ inputs_of p q
   file_left (edit.Version version) h =
-      devices_left p (made p (edit.Version version)) refl q (second_not (is_roster q) (is_planned q) h) file
+      absurd (each_versioned q file h)
   file_left (edit.Bitrate rate) h = rate_left p (made p (edit.Bitrate rate)) refl refl refl refl q h file
   file_left (edit.Horizon time) h = nothing_left (made p (edit.Horizon time)) refl refl refl refl refl
   file_left (edit.Manager m) h = nothing_left (made p (edit.Manager m)) refl refl refl refl refl
   file_left (edit.TimeStamps stamps) h = nothing_left (made p (edit.TimeStamps stamps)) refl refl refl refl refl
   file_left (edit.SyncCounter n) h = nothing_left (made p (edit.SyncCounter n)) refl refl refl refl refl
   file_left (edit.Eds name text) h =
-      texts_left p (made p (edit.Eds name text)) name (Some text)
+      texts_left p (made p (edit.Eds name text)) refl name (Some text)
       (λ e. get-insert nat_list_cmp_total p.texts name text e) q h file
   file_left (edit.DropEds name) h =
-      texts_left p (made p (edit.DropEds name)) name None (λ e. get-remove nat_list_cmp_total p.texts name e) q h file
+      texts_left p (made p (edit.DropEds name)) refl name None (λ e. get-remove nat_list_cmp_total p.texts name e) q h file
   file_left (edit.Node id name eds) h =
-      devices_left p (made p (edit.Node id name eds)) refl q (not_planned id q file h) file
+      devices_left p (made p (edit.Node id name eds)) refl refl q (not_planned id q file h) file
   file_left (edit.Need id mandatory) h = need_as id mandatory (get p.nodes id) refl
-  file_left (edit.DropNode id) h = devices_left p (made p (edit.DropNode id)) refl q (not_planned id q file h) file
+  file_left (edit.DropNode id) h = devices_left p (made p (edit.DropNode id)) refl refl q (not_planned id q file h) file
   file_left (edit.Param id index sub text) h = params_as id (λ ps. insert ps (index, sub) text) (get p.nodes id) refl h
   file_left (edit.Unparam id index sub) h = params_as id (λ ps. remove ps (index, sub)) (get p.nodes id) refl h
-  file_left (edit.Message name m) h = devices_left p (made p (edit.Message name m)) refl q h file
-  file_left (edit.Start name n) h = devices_left p (made p (edit.Start name n)) refl q h file
-  file_left (edit.DropMessage name) h = devices_left p (made p (edit.DropMessage name)) refl q h file
+  file_left (edit.Message name m) h = devices_left p (made p (edit.Message name m)) refl refl q h file
+  file_left (edit.Start name n) h = devices_left p (made p (edit.Start name n)) refl refl q h file
+  file_left (edit.DropMessage name) h = devices_left p (made p (edit.DropMessage name)) refl refl q h file
   file_left (edit.Source name position index sub) h =
-      devices_left p (made p (edit.Source name position index sub)) refl q h file
-  file_left (edit.Unsource name position) h = devices_left p (made p (edit.Unsource name position)) refl q h file
+      devices_left p (made p (edit.Source name position index sub)) refl refl q h file
+  file_left (edit.Unsource name position) h = devices_left p (made p (edit.Unsource name position)) refl refl q h file
   file_left (edit.Sink name position node index sub) h =
-      devices_left p (made p (edit.Sink name position node index sub)) refl q h file
-  file_left (edit.Unsink name position node) h = devices_left p (made p (edit.Unsink name position node)) refl q h file
+      devices_left p (made p (edit.Sink name position node index sub)) refl refl q h file
+  file_left (edit.Unsink name position node) h = devices_left p (made p (edit.Unsink name position node)) refl refl q h file
   file_left (edit.Receive name node rpdo event) h =
-      devices_left p (made p (edit.Receive name node rpdo event)) refl q h file
-  file_left (edit.Unreceive name node) h = devices_left p (made p (edit.Unreceive name node)) refl q h file
+      devices_left p (made p (edit.Receive name node rpdo event)) refl refl q h file
+  file_left (edit.Unreceive name node) h = devices_left p (made p (edit.Unreceive name node)) refl refl q h file
   file_left (edit.Event number e) h = nothing_left (made p (edit.Event number e)) refl refl refl refl refl
   file_left (edit.DropEvent number) h = nothing_left (made p (edit.DropEvent number)) refl refl refl refl refl
 

@@ -169,7 +169,7 @@ module _ (p : Project) where
   params_left id change n = node_left id (other_params change) (λ node. refl) n (get p.nodes id) refl
 
   pub device_left : (e : Edit) (n : ℕ) → is_touched p e (part.Node n) ≡ false → device_from (made p e) n ≡ device_from p n
-  device_left (edit.Version version) n h = refl
+  device_left (edit.Version version) n h = cc
   device_left (edit.Bitrate rate) n h = refl
   device_left (edit.Horizon time) n h = refl
   device_left (edit.Manager m) n h = refl
@@ -218,7 +218,7 @@ module _ (p : Project) where
     lies o = option_map_or (λ (e : TimedEvent). is_window_of i e.time) o false
 
     pub window_left : (e : Edit) → is_touched p e (part.Window i) ≡ false → window_steps (made p e) i ≡ window_steps p i
-    window_left (edit.Version version) h = steps_by (edit.Version version) (λ n. refl) refl
+    window_left (edit.Version version) h = cc
     window_left (edit.Bitrate rate) h = steps_by (edit.Bitrate rate) (λ n. refl) refl
     window_left (edit.Horizon time) h = steps_by (edit.Horizon time) (λ n. refl) refl
     window_left (edit.Manager m) h = steps_by (edit.Manager m) (λ n. refl) refl

@@ -1,8 +1,10 @@
 -- What a project doesn't have isn't to be made.
 use Rattle.std.proofs.Common.{◌≡◌, ℕ, List, Option, Some, None, is_some, not, true, ap, option_map, option_and_then, refl}
+use Rattle.project_edits.specs.Versions.{is_three}
 use Rattle.co_project.specs.declared.node.Node.{Node}
 use Rattle.co_project.specs.Project.{Content as Project}
 use Rattle.co_project.specs.Tables.{node_at, text_at}
+use Rattle.part_shelves.specs.SheetText.{sheet_text}
 use Rattle.project_parts.specs.Given.{dcf_of_node, device_of_node, inputs_of, writes_of_node}
 use Rattle.project_parts.specs.Given.{OfConcise, OfDcf, OfDevice, OfNode, OfWrites}
 use Rattle.project_parts.specs.Gone.{is_gone}
@@ -25,7 +27,8 @@ module _ (p : Project) where
   pub given_none : (q : Part) → is_gone p q ≡ true → inputs_of p q ≡ None
   given_none (part.Device name) gone = by (text_at p.texts name) gone
     where
-      by : (o : Option (List ℕ)) → not (is_some o) ≡ true → option_map OfDevice o ≡ None
+      by : (o : Option (List ℕ)) → not (is_some o) ≡ true
+          → option_map OfDevice (option_map (sheet_text (is_three p.version)) o) ≡ None
       by None gone = refl
       by (Some text) gone = cc
   given_none part.Plan gone = cc

@@ -1,64 +1,53 @@
 -- The plan over the devices of the nodes that messages name is that over all.
-use Rattle.std.proofs.Common.{◌≡◌, ◌∙◌, ℕ, ◌==◌, Bool, true, false, cond, List, [], ◌∷◌, map, filter_map, Option, Some}
-use Rattle.std.proofs.Common.{None, refl, sym, ap}
+use Rattle.std.proofs.Common.{◌≡◌, ◌∙◌, ℕ, ◌==◌, Bool, true, false, cond, List, [], ◌∷◌, filter, Option, Some, refl, sym, ap}
 use Rattle.std.specs.FinMap.{entries}
-use Rattle.std.specs.List.{cons_option}
 use Rattle.std.specs.Map.{lookup}
 use Rattle.std.proofs.lemmas.Bool.{eqb-true}
-use Rattle.ini_text.specs.Content.{Content as DataSheet, Section}
+use Rattle.eds_device.specs.Sheets.{Sheet}
 use Rattle.project_messages.specs.Messages.{is_of_messages, Named}
 use Rattle.pdo_plan.specs.Plan.{plan_of}
 use Rattle.pdo_plan.proofs.NamedLemmas.{named_alike}
 use Rattle.pdo_stations.specs.Devices.{devices_of}
 use Rattle.project_plan.specs.Named.{is_flagged}
-use Rattle.project_parts.specs.Made.{plan_made, sections_if, sections_of}
+use Rattle.project_parts.specs.Made.{flagged, plan_made}
 
 module _ (flags : List Bool) where
   module _ (node : ℕ) (named : is_flagged flags node ≡ true) where
-    abbrev at_node : List (ℕ × List Section) → Option (List Section)
+    abbrev at_node : List (ℕ × Sheet) → Option Sheet
     at_node nodes = lookup (λ n. n == node) nodes
 
     -- one that isn't named
-    other : (d : ℕ × DataSheet) → is_flagged flags d.0 ≡ false → (t : Bool) → (d.0 == node) ≡ t → t ≡ false
+    other : (d : ℕ × Sheet) → is_flagged flags d.0 ≡ false → (t : Bool) → (d.0 == node) ≡ t → t ≡ false
     other d none true same = sym named ∙ ap (is_flagged flags) (sym (eqb-true d.0 node same)) ∙ none
     other d none false apart = refl
 
     -- what is found of a named node
-    found : (ds : List (ℕ × DataSheet)) → at_node (filter_map (sections_if flags) ds) ≡ at_node (map sections_of ds)
+    found : (ds : List (ℕ × Sheet)) → at_node (filter (flagged flags) ds) ≡ at_node ds
     found [] = refl
     found (d ∷ ds) = by (is_flagged flags d.0) refl (found ds)
       where
-        by : (t : Bool) → is_flagged flags d.0 ≡ t
-            → at_node (filter_map (sections_if flags) ds) ≡ at_node (map sections_of ds)
-            → at_node (filter_map (sections_if flags) (d ∷ ds)) ≡ at_node (map sections_of (d ∷ ds))
-        by true flagged rest =
-            ap (λ t. at_node (cons_option (cond t (Some (sections_of d)) None) (filter_map (sections_if flags) ds)))
-            flagged
-            ∙ ap (cond (d.0 == node) (Some d.1.sections)) rest
+        by : (t : Bool) → is_flagged flags d.0 ≡ t → at_node (filter (flagged flags) ds) ≡ at_node ds
+            → at_node (cond t (d ∷ filter (flagged flags) ds) (filter (flagged flags) ds)) ≡ at_node (d ∷ ds)
+        by true is rest = ap (cond (d.0 == node) (Some d.1)) rest
         by false none rest =
-            ap (λ t. at_node (cons_option (cond t (Some (sections_of d)) None) (filter_map (sections_if flags) ds)))
-            none
-            ∙ rest
-            ∙ sym (ap (λ t. cond t (Some d.1.sections) (at_node (map sections_of ds)))
-            (other d none (d.0 == node) refl))
+            rest ∙ sym (ap (λ t. cond t (Some d.1) (at_node ds)) (other d none (d.0 == node) refl))
 
 -- the plan of the messages
-pub named_planned : (devices : List (ℕ × DataSheet)) (messages : Named) (flags : List Bool)
-    (nodes : List (ℕ × List Section)) → ((node : ℕ) → is_flagged flags node ≡ is_of_messages node messages)
-    → nodes ≡ filter_map (sections_if flags) devices
+pub named_planned : (devices : List (ℕ × Sheet)) (messages : Named) (flags : List Bool)
+    (nodes : List (ℕ × Sheet)) → ((node : ℕ) → is_flagged flags node ≡ is_of_messages node messages)
+    → nodes ≡ filter (flagged flags) devices
     → plan_of (devices_of false nodes) (entries messages)
     ≡ plan_made (record { is_three = false; devices = devices; messages = messages })
 unfolding plan_made
 named_planned devices messages flags nodes named is =
-    ap (λ (ns : List (ℕ × List Section)). plan_of (devices_of false ns) (entries messages)) is
-    ∙ named_alike (filter_map (sections_if flags) devices) (map sections_of devices) messages
+    ap (λ (ns : List (ℕ × Sheet)). plan_of (devices_of false ns) (entries messages)) is
+    ∙ named_alike (filter (flagged flags) devices) devices messages
     (λ node concerned. found flags node (named node ∙ concerned) devices)
 
 -- and over all of them in version 3
-pub all_planned : (devices : List (ℕ × DataSheet)) (messages : Named) (nodes : List (ℕ × List Section))
-    → nodes ≡ map sections_of devices
+pub all_planned : (devices : List (ℕ × Sheet)) (messages : Named) (nodes : List (ℕ × Sheet)) → nodes ≡ devices
     → plan_of (devices_of true nodes) (entries messages)
     ≡ plan_made (record { is_three = true; devices = devices; messages = messages })
 unfolding plan_made
 all_planned devices messages nodes is =
-    ap (λ (ns : List (ℕ × List Section)). plan_of (devices_of true ns) (entries messages)) is
+    ap (λ (ns : List (ℕ × Sheet)). plan_of (devices_of true ns) (entries messages)) is

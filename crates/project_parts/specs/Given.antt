@@ -2,13 +2,14 @@
 use Rattle.std.specs.Prelude.{ℕ, Bool, true, false, List, Option, Some, ◌==◌, option_map, option_and_then, filter_map}
 use Rattle.std.specs.FinMap.{entries}
 use Rattle.std.specs.Ordering.{eq_by_cmp}
-use Rattle.ini_text.specs.Content.{Content as DataSheet}
+use Rattle.eds_device.specs.Sheets.{Sheet}
 use Rattle.project_edits.specs.Versions.{is_three}
 use Rattle.project_messages.specs.Messages.{name_cmp}
 use Rattle.co_project.specs.declared.node.Node.{Node}
 use Rattle.co_project.specs.Project.{Content as Project}
-use Rattle.co_project.specs.Tables.{node_at, text_at}
+use Rattle.co_project.specs.Tables.{node_at}
 use Rattle.co_scenario.specs.declared.timed_step.TimedStep.{TimedStep}
+use Rattle.part_shelves.specs.SheetText.{sheet_given, SheetText}
 use Rattle.project_plan.specs.Network.{device_at}
 use Rattle.network_image.specs.Image.{roster_of_project, window_steps}
 use Rattle.project_parts.specs.declared.plan_from.PlanFrom.{PlanFrom}
@@ -36,7 +37,7 @@ same_part p q = false
 
 -- what a part is made from; a window is kept with its own steps
 pub data Given : Type 0 where
-  OfDevice : List ℕ → Given
+  OfDevice : SheetText → Given
   OfPlan : PlanFrom → Given
   OfWrites : WritesFrom → Given
   OfConcise : ConciseFrom → Given
@@ -49,7 +50,7 @@ pub data Given : Type 0 where
 -- ---- what the files are made of
 
 -- a node with its device
-abbrev pub node_with_device : Project → ℕ × Node → Option (ℕ × DataSheet)
+abbrev pub node_with_device : Project → ℕ × Node → Option (ℕ × Sheet)
 node_with_device p e = option_map (λ d. (e.0, d)) (device_at p e.1.eds)
 
 abbrev pub plan_from : Project → PlanFrom
@@ -110,7 +111,7 @@ whole p = record { project = p }
 
 -- WHAT A PART IS TO BE MADE FROM NOW, or none where its subject is gone
 abbrev pub inputs_of : Project → Part → Option Given
-inputs_of p (part.Device name) = option_map OfDevice (text_at p.texts name)
+inputs_of p (part.Device name) = option_map OfDevice (sheet_given p name)
 inputs_of p part.Plan = Some (OfPlan (plan_from p))
 inputs_of p (part.Writes n) = option_map OfWrites (writes_from p n)
 inputs_of p (part.Concise n) = option_map OfConcise (concise_from p n)

@@ -1,8 +1,7 @@
 -- What parts are, by the inputs that they are built from.
-use Rattle.std.specs.Prelude.{ℕ, Bool, List, map, Option, Some, None, if◌then◌else◌}
+use Rattle.std.specs.Prelude.{ℕ, Bool, List}
 use Rattle.std.specs.FinMap.{entries}
 use Rattle.ini_text.specs.Change.{text_of}
-use Rattle.ini_text.specs.Content.{Content as DataSheet, Section}
 use Rattle.concise_dcf.specs.declared.write.Write.{Write}
 use Rattle.concise_dcf.specs.Concise.{text_of as concise_text}
 use Rattle.eds_dcf.specs.Dcf.{dcf_sections}
@@ -14,6 +13,7 @@ use Rattle.project_plan.specs.Named.{is_flagged}
 use Rattle.image_parts.specs.declared.roster.Roster.{Roster}
 use Rattle.eds_device.specs.Entries.{defaults_of, shape_of}
 use Rattle.eds_device.specs.Identity.{identity}
+use Rattle.eds_device.specs.Sheets.{Sheet}
 use Rattle.project_parts.specs.declared.device_at.DeviceAt.{DeviceAt}
 use Rattle.project_parts.specs.declared.device_parts.DeviceParts.{DeviceParts}
 use Rattle.project_parts.specs.declared.plan_from.PlanFrom.{PlanFrom}
@@ -23,21 +23,17 @@ use Rattle.project_parts.specs.declared.concise_from.ConciseFrom.{ConciseFrom}
 use Rattle.project_parts.specs.declared.dcf_from.DcfFrom.{DcfFrom}
 use Rattle.project_parts.specs.Written.{DeviceWithWrites}
 
--- a node with the sections of its device
-abbrev pub sections_of : ℕ × DataSheet → ℕ × List Section
-sections_of d = (d.0, d.1.sections)
-
 -- the plan of the messages over the devices of the nodes, by the rules of version 3 or not
 unfoldable pub plan_made : PlanFrom → List PlannedMessage
-plan_made f = plan_of (devices_of f.is_three (map sections_of f.devices)) (entries f.messages)
+plan_made f = plan_of (devices_of f.is_three f.devices) (entries f.messages)
 
--- a node that messages name, with the sections of its device
-abbrev pub sections_if : List Bool → ℕ × DataSheet → Option (ℕ × List Section)
-sections_if flags d = if is_flagged flags d.0 then Some (sections_of d) else None
+-- a node with its device is one that messages name
+abbrev pub flagged : List Bool → ℕ × Sheet → Bool
+flagged flags d = is_flagged flags d.0
 
 -- the writes of a node
 unfoldable pub writes_made : WritesFrom → List Write
-writes_made f = node_writes f.is_three f.plan f.params f.device.sections f.node
+writes_made f = node_writes f.is_three f.plan f.params f.device f.node
 
 -- and its device with them
 abbrev pub written_made : WritesFrom → DeviceWithWrites
@@ -49,7 +45,7 @@ concise_made f = concise_text f.writes
 
 -- the DCF (CiA 306) of a node
 unfoldable pub dcf_made : DcfFrom → List ℕ
-dcf_made f = text_of (dcf_sections f.device.sections f.node f.name f.rate f.writes)
+dcf_made f = text_of (dcf_sections f.device f.node f.name f.rate f.writes)
 
 -- the roster is kept with itself
 abbrev pub roster_made : RosterFrom → Roster
@@ -59,7 +55,7 @@ roster_made f = f.roster
 -- the identity that are expected of it
 unfoldable pub device_parts : DeviceAt → DeviceParts
 device_parts f = record {
-  defaults = defaults_of f.device.sections f.node;
-  shape = shape_of f.device.sections f.node;
-  expect = record { numbers = identity f.device.sections f.node };
+  defaults = defaults_of f.device f.node;
+  shape = shape_of f.device f.node;
+  expect = record { numbers = identity f.device f.node };
 }

@@ -46,6 +46,12 @@ abbrev pub is_roster : Part → Bool
 is_roster part.Roster = true
 is_roster others = false
 
+-- what the version goes into: the devices, since it says which of their data types count, and so all that is made of
+-- them, and the roster
+abbrev pub reads_version : Part → Bool
+reads_version part.Diagnostics = false
+reads_version others = true
+
 -- what a node goes into: the plan and what is made of it, the roster, what it has by its device, and each window, since
 -- its steps say what the entries of nodes take
 abbrev pub is_of_network : ℕ → Part → Bool
@@ -72,7 +78,7 @@ abbrev pub goes_into : Events → Touch → Part → Bool
 goes_into events Nothing q = false
 goes_into events Rate q = says_rate q
 goes_into events Roster q = is_roster q
-goes_into events Version q = is_roster q || is_planned q
+goes_into events Version q = reads_version q
 goes_into events (Sheet name) q = is_of_text name q
 goes_into events (Node id) q = is_of_network id q
 goes_into events (Parameters id) q = is_of_node id q

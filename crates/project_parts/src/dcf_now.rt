@@ -1,6 +1,6 @@
 //! The inputs of a node's DCF as they lie in a project.
 ghost use Rattle.std.specs.Prelude.{◌≡◌, Some};
-ghost use Rattle.ini_text.specs.Content.{Content};
+ghost use Rattle.eds_device.specs.Sheets.{Sheet};
 
 use crate::dcf_from::DcfFrom;
 use crate::device_writes::DeviceWrites;
@@ -20,12 +20,12 @@ pub struct DcfNow<'a> {
     pub rate: u16,
     pub node: u8,
     pub template: Option<Shared<Template>>,
-    ghost of_device: { (t : Content) → template ≡ Some t → t ≡ written.device },
+    ghost of_device: { (t : Sheet) → template ≡ Some t → t ≡ written.device },
 }
 
 impl<'a> DcfNow<'a> {
     ghost use Rattle.std.specs.Prelude.{◌≡◌, IfOk, Some, option_map};
-    ghost use Rattle.ini_text.specs.Content.{Content};
+    ghost use Rattle.eds_device.specs.Sheets.{Sheet};
     ghost use Rattle.project_parts.specs.Given.{dcf_from, writes_from};
     ghost use Rattle.project_parts.specs.Made.{dcf_made, written_made};
     ghost use Rattle.project_parts.specs.Offered.{offered_dcf};
@@ -52,7 +52,7 @@ impl<'a> DcfNow<'a> {
         now: Option<DcfNow<'a>>,
         template: Option<Shared<Template>>,
     ) -> Option<DcfNow<'a>>
-        requires { (t : Content) (d : Inputs) → template ≡ Some t → option_map offered_dcf now ≡ Some d
+        requires { (t : Sheet) (d : Inputs) → template ≡ Some t → option_map offered_dcf now ≡ Some d
             → t ≡ d.device }
         ensures { option_map offered_dcf result ≡ option_map offered_dcf now.entry }
     {

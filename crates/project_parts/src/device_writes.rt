@@ -78,7 +78,7 @@ impl DeviceWrites {
         rate: u16,
     ) -> Result<Vec<u8>, AllocError>
         ensures { IfOk result (λ text. text.items
-            ≡ text_of (dcf_sections self.now.device.sections node name.now rate self.now.writes)) }
+            ≡ text_of (dcf_sections self.now.device node name.now rate self.now.writes)) }
     {
         let writes = self.writes.get().as_slice();
         let text = eds_dcf::dcf_text(alloc, self.device.get(), node, name, rate, writes)?;
@@ -97,7 +97,7 @@ impl DeviceWrites {
     ) -> Result<Vec<u8>, AllocError>
         requires { template.now ≡ self.now.device }
         ensures { IfOk result (λ text. text.items
-            ≡ text_of (dcf_sections self.now.device.sections node name.now rate self.now.writes)) }
+            ≡ text_of (dcf_sections self.now.device node name.now rate self.now.writes)) }
     {
         let writes = self.writes.get().as_slice();
         let text = template.dcf_text(alloc, node, name, rate, writes)?;

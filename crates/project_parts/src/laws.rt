@@ -25,7 +25,7 @@ pub fn parts_are_those_of_the_project()
     ensures concise { (p : Content) (n : ℕ) → option_map concise_made (concise_from p n)
         ≡ option_map (λ (m : Member). concise_text (writes_of p m n)) (member_at p n) }
     ensures dcf { (p : Content) (n : ℕ) → option_map dcf_made (dcf_from p n)
-        ≡ option_map (λ (m : Member). text_of (dcf_sections m.sections n m.node.name p.bitrate (writes_of p m n)))
+        ≡ option_map (λ (m : Member). text_of (dcf_sections m.sheet n m.node.name p.bitrate (writes_of p m n)))
         (member_at p n) }
 {}
 

@@ -1,8 +1,8 @@
 //! The devices of nodes.
-ghost use Rattle.std.specs.Prelude.{◌≡◌, ◌↔◌, IsTrue, IfOk, OnOk, [], ◌++◌, filter_map, map, option_map};
+ghost use Rattle.std.specs.Prelude.{◌≡◌, ◌↔◌, IsTrue, IfOk, OnOk, [], ◌++◌, filter, option_map};
 ghost use Rattle.std.specs.Option.{option_to_list};
 ghost use Rattle.pdo_stations.specs.Shown.{nodes_of};
-ghost use Rattle.project_parts.specs.Made.{sections_if, sections_of};
+ghost use Rattle.project_parts.specs.Made.{flagged};
 
 use base::Shared;
 use eds_device::DataSheet;
@@ -18,9 +18,9 @@ pub struct NodeDevices {
 
 impl Model for NodeDevices {
     ghost use Rattle.std.specs.Prelude.{ℕ, List};
-    ghost use Rattle.ini_text.specs.Content.{Content as DataSheet};
+    ghost use Rattle.eds_device.specs.Sheets.{Sheet};
 
-    ghost Value = { List (ℕ × DataSheet) };
+    ghost Value = { List (ℕ × Sheet) };
 
     ghost view = { λ d. d.items.items };
 }
@@ -67,7 +67,7 @@ fn references<'a>(
     items: &'a [(u8, Shared<DataSheet>)],
     named: &Named,
 ) -> Result<Vec<(u8, &'a DataSheet)>, AllocError>
-    ensures { IfOk result (λ nodes. nodes_of nodes.items ≡ filter_map (sections_if named.now) items.now) }
+    ensures { IfOk result (λ nodes. nodes_of nodes.items ≡ filter (flagged named.now) items.now) }
 {
     let mut nodes = Vec::new(alloc);
     let mut rest = items;
@@ -85,7 +85,7 @@ fn all_references<'a>(
     alloc: Global,
     items: &'a [(u8, Shared<DataSheet>)],
 ) -> Result<Vec<(u8, &'a DataSheet)>, AllocError>
-    ensures { IfOk result (λ nodes. nodes_of nodes.items ≡ map sections_of items.now) }
+    ensures { IfOk result (λ nodes. nodes_of nodes.items ≡ items.now) }
 {
     let mut nodes = Vec::new(alloc);
     let mut rest = items;
@@ -140,7 +140,7 @@ impl NodeDevices {
         alloc: Global,
         named: &Named,
     ) -> Result<Vec<(u8, &DataSheet)>, AllocError>
-        ensures { IfOk result (λ nodes. nodes_of nodes.items ≡ filter_map (sections_if named.now) self.now) }
+        ensures { IfOk result (λ nodes. nodes_of nodes.items ≡ filter (flagged named.now) self.now) }
     {
         references(alloc, &self.items, named)
     }
@@ -148,7 +148,7 @@ impl NodeDevices {
     /// All nodes, with references to their devices. Takes time and memory by their number; want of memory
     /// is the only error.
     pub fn all_references(&self, alloc: Global) -> Result<Vec<(u8, &DataSheet)>, AllocError>
-        ensures { IfOk result (λ nodes. nodes_of nodes.items ≡ map sections_of self.now) }
+        ensures { IfOk result (λ nodes. nodes_of nodes.items ≡ self.now) }
     {
         all_references(alloc, &self.items)
     }

@@ -14,7 +14,7 @@ pub enum Touch<'a> {
     /// What else the manager (CiA 302) is told: its numbers, its time stamps, the counter of SYNC, which nodes are
     /// mandatory.
     Roster,
-    /// The version, by which the plan is made and the manager starts nodes.
+    /// The version: it says which data types count, how the plan is made and how the manager starts nodes.
     Version,
     /// The text of the EDS of a name.
     Sheet(&'a [u8]),

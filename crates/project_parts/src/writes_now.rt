@@ -22,7 +22,7 @@ pub struct WritesNow<'a> {
     pub params: &'a Params,
     pub device: Shared<DataSheet>,
     pub node: u8,
-    ghost made_for: { is_three ≡ false → IsMadeFor plan device.sections node },
+    ghost made_for: { is_three ≡ false → IsMadeFor plan device node },
 }
 
 impl<'a> WritesNow<'a> {

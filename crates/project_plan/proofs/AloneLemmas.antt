@@ -22,7 +22,7 @@ use Rattle.pdo_plan.proofs.FreeLemmas.{apart_at, rpdos_apart, tpdos_apart}
 use Rattle.pdo_plan.proofs.JudgedLemmas.{clean_within}
 use Rattle.pdo_links.specs.Order.{IsSentAlone, IsTakenAlone}
 use Rattle.project_edits.specs.Versions.{is_three}
-use Rattle.project_plan.specs.Network.{sections_of_members, plan_of_project}
+use Rattle.project_plan.specs.Network.{sheets_of_members, plan_of_project}
 
 -- ---- places in lists
 
@@ -48,7 +48,7 @@ module _ (p : Content) (sound : IsSound p) where
   cs = clean (plan_of_project p)
 
   abbrev devices : Devices
-  devices = devices_of (is_three p.version) (sections_of_members p)
+  devices = devices_of (is_three p.version) (sheets_of_members p)
 
   -- and so are the clean ones
   pub all_within : All IsWithin (clean (plan_of_project p))

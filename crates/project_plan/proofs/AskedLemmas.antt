@@ -11,8 +11,8 @@ use Rattle.co_values.specs.declared.form.Width.{Width}
 use Rattle.co_values.specs.declared.form.Width.TheVariants.{Bits8, Bits16}
 use Rattle.cia301.specs.CobIds.{no_rtr_bit, off_bit}
 use Rattle.concise_dcf.specs.declared.write.Write.{Write}
-use Rattle.ini_text.specs.Content.{Section}
 use Rattle.eds_device.specs.Entries.{entry_at}
+use Rattle.eds_device.specs.Sheets.{Sheet}
 use Rattle.project_messages.specs.declared.linked.Linked.{Linked}
 use Rattle.project_messages.specs.declared.message.Message.{Message}
 use Rattle.co_project.specs.Project.{Content}
@@ -29,7 +29,7 @@ use Rattle.pdo_links.specs.PdoWrites.{cob_write, mapping_writes, write_at}
 use Rattle.pdo_links.specs.Writes.{start_write, time_write, tpdo_writes}
 use Rattle.pdo_links.proofs.Values.{first_of, second_of}
 use Rattle.project_edits.specs.Versions.{is_three}
-use Rattle.project_plan.specs.Network.{member_at, sections_of_members, plan_of_project, writes_of, Member}
+use Rattle.project_plan.specs.Network.{member_at, sheets_of_members, plan_of_project, writes_of, Member}
 use Rattle.project_plan.proofs.NetworkLemmas.{described_at}
 use Rattle.project_plan.specs.Nodes.{IsSoundNode, Sends}
 use Rattle.project_plan.specs.Pdos.{sent_writes}
@@ -46,7 +46,7 @@ record IsAsked (d : Devices) (c : Clean) : Type 0 where
   event : Takes d c.message.node c.message.tpdo Bits16 5 c.message.event
   start : Takes d c.message.node c.message.tpdo Bits8 6 c.start
 
-clean_asked : (nodes : List (ℕ × List Section)) (withheld : Withheld) (before : List Clean) (m : Linked) (c : Clean)
+clean_asked : (nodes : List (ℕ × Sheet)) (withheld : Withheld) (before : List Clean) (m : Linked) (c : Clean)
     → judged_message (had_by withheld before) (devices_of false nodes) m ≡ Planned c → IsAsked (devices_of false nodes) c
 clean_asked nodes withheld before m c e =
     let d : Devices = devices_of false nodes in
@@ -62,15 +62,15 @@ clean_asked nodes withheld before m c e =
     }
 
 all_asked : (p : Content) (c : Clean) → is_three p.version ≡ false → Contains (clean (plan_of_project p)) c
-    → IsAsked (devices_of false (sections_of_members p)) c
+    → IsAsked (devices_of false (sheets_of_members p)) c
 unfolding plan_of_project
 all_asked p c old has =
-    let d : Devices = devices_of false (sections_of_members p) in
+    let d : Devices = devices_of false (sheets_of_members p) in
     let planned : List Clean = clean (plan_of d (entries p.messages)) in
     All-contains (IsAsked d) planned c
     (all_clean (IsAsked d) planned
-    (each_clean d (λ before c. IsAsked d c) (clean_asked (sections_of_members p)) (entries p.messages)))
-    (subst (λ (b : Bool). Contains (clean (plan_of (devices_of b (sections_of_members p)) (entries p.messages))) c) old has)
+    (each_clean d (λ before c. IsAsked d c) (clean_asked (sheets_of_members p)) (entries p.messages)))
+    (subst (λ (b : Bool). Contains (clean (plan_of (devices_of b (sheets_of_members p)) (entries p.messages))) c) old has)
 
 besides_none : (n : ℕ) (b : Bool) → (n == 0 || b) ≡ true → (n ≡ 0 → ⊥) → b ≡ true
 besides_none n b test other = by (n == 0) refl test
@@ -82,30 +82,30 @@ besides_none n b test other = by (n == 0) refl test
 module _ (p : Content) (id : ℕ) (m : Member) (there : member_at p id ≡ Some m) where
   -- the entry of the node's own EDS takes it
   entry_takes : (tpdo node : ℕ) (width : Width) (sub value : ℕ) → node ≡ id
-      → Takes (devices_of false (sections_of_members p)) node tpdo width sub value → (value ≡ 0 → ⊥)
-      → option_map_or (takes_unsigned width) (entry_at m.sections id (tpdo_object tpdo) sub) false ≡ true
+      → Takes (devices_of false (sheets_of_members p)) node tpdo width sub value → (value ≡ 0 → ⊥)
+      → option_map_or (takes_unsigned width) (entry_at m.sheet id (tpdo_object tpdo) sub) false ≡ true
   entry_takes tpdo node width sub value is takes other =
-      let test : has_unsigned (devices_of false (sections_of_members p)) id width (tpdo_object tpdo, sub) ≡ true =
-      besides_none value (has_unsigned (devices_of false (sections_of_members p)) id width (tpdo_object tpdo, sub))
-      (subst (λ (n : ℕ). Takes (devices_of false (sections_of_members p)) n tpdo width sub value) is takes) other in
-      subst (λ (o : Option (List Section)). option_map_or (takes_unsigned width)
-      (option_and_then (λ ss. entry_at ss id (tpdo_object tpdo) sub) o) false ≡ true)
+      let test : has_unsigned (devices_of false (sheets_of_members p)) id width (tpdo_object tpdo, sub) ≡ true =
+      besides_none value (has_unsigned (devices_of false (sheets_of_members p)) id width (tpdo_object tpdo, sub))
+      (subst (λ (n : ℕ). Takes (devices_of false (sheets_of_members p)) n tpdo width sub value) is takes) other in
+      subst (λ (o : Option Sheet). option_map_or (takes_unsigned width)
+      (option_and_then (λ sheet. entry_at sheet id (tpdo_object tpdo) sub) o) false ≡ true)
       (described_at p id m there) test
 
 -- what is written in versions 1 and 2
 by_old : (p : Content) → is_three p.version ≡ false → (id : ℕ) (m : Member) (c : Clean) (w : Write)
-    → Contains (tpdo_writes m.sections id c) w → Contains (sent_writes p m id c) w
+    → Contains (tpdo_writes m.sheet id c) w → Contains (sent_writes p m id c) w
 by_old p old id m c w has = rw old has
 
 -- ---- it is written
 
-module _ (ss : List Section) (node : ℕ) where
-  in_time : (object sub time : ℕ) → option_map_or (takes_unsigned Bits16) (entry_at ss node object sub) false ≡ true
-      → Contains (time_write ss node object sub time) (write_at object sub (little_bytes 2 time))
+module _ (sheet : Sheet) (node : ℕ) where
+  in_time : (object sub time : ℕ) → option_map_or (takes_unsigned Bits16) (entry_at sheet node object sub) false ≡ true
+      → Contains (time_write sheet node object sub time) (write_at object sub (little_bytes 2 time))
   in_time object sub time test = rw test (zero, omega arith, refl)
 
-  in_start : (object start : ℕ) → option_map_or (takes_unsigned Bits8) (entry_at ss node object 6) false ≡ true
-      → Contains (start_write ss node object start) (write_at object 6 (start ∷ []))
+  in_start : (object start : ℕ) → option_map_or (takes_unsigned Bits8) (entry_at sheet node object 6) false ≡ true
+      → Contains (start_write sheet node object start) (write_at object 6 (start ∷ []))
   in_start object start test = rw test (zero, omega arith, refl)
 
   module _ (c : Clean) where
@@ -113,15 +113,15 @@ module _ (ss : List Section) (node : ℕ) where
     object = tpdo_object c.message.tpdo
 
     abbrev inhibit : List Write
-    inhibit = time_write ss node object 3 c.message.inhibit
+    inhibit = time_write sheet node object 3 c.message.inhibit
 
     abbrev event : List Write
-    event = time_write ss node object 5 c.message.event
+    event = time_write sheet node object 5 c.message.event
 
     abbrev start : List Write
-    start = start_write ss node object c.start
+    start = start_write sheet node object c.start
 
-    in_tpdo : (w : Write) → Contains (inhibit ++ event ++ start) w → Contains (tpdo_writes ss node c) w
+    in_tpdo : (w : Write) → Contains (inhibit ++ event ++ start) w → Contains (tpdo_writes sheet node c) w
     unfolding tpdo_writes
     in_tpdo w has =
         let off : List Write = cob_write object (off_bit + (no_rtr_bit + c.identifier))
@@ -134,7 +134,7 @@ module _ (ss : List Section) (node : ℕ) where
 
 module _ (p : Content) (old : is_three p.version ≡ false) (id : ℕ) (m : Member) (c : Clean) (node : IsSoundNode p id m)
     (sends : Sends p id c) where
-  asked : IsAsked (devices_of false (sections_of_members p)) c
+  asked : IsAsked (devices_of false (sheets_of_members p)) c
   asked = all_asked p c old sends.planned
 
   pub inhibit_written : (c.message.inhibit ≡ 0 → ⊥)
@@ -143,11 +143,11 @@ module _ (p : Content) (old : is_three p.version ≡ false) (id : ℕ) (m : Memb
       let w : Write = write_at (tpdo_object c.message.tpdo) 3 (little_bytes 2 c.message.inhibit) in
       let test = entry_takes p id m node.there c.message.tpdo c.message.node Bits16 3 c.message.inhibit sends.sender
       asked.inhibit other in
-      let has : Contains (inhibit m.sections id c) w = in_time m.sections id (tpdo_object c.message.tpdo) 3
+      let has : Contains (inhibit m.sheet id c) w = in_time m.sheet id (tpdo_object c.message.tpdo) 3
       c.message.inhibit test in
-      sent_is_there p id m c w node sends (by_old p old id m c w (in_tpdo m.sections id c w
-      (Contains-append_left (inhibit m.sections id c ++ event m.sections id c) (start m.sections id c) w
-      (Contains-append_left (inhibit m.sections id c) (event m.sections id c) w has))))
+      sent_is_there p id m c w node sends (by_old p old id m c w (in_tpdo m.sheet id c w
+      (Contains-append_left (inhibit m.sheet id c ++ event m.sheet id c) (start m.sheet id c) w
+      (Contains-append_left (inhibit m.sheet id c) (event m.sheet id c) w has))))
 
   pub event_written : (c.message.event ≡ 0 → ⊥)
       → Contains (writes_of p m id) (write_at (tpdo_object c.message.tpdo) 5 (little_bytes 2 c.message.event))
@@ -155,11 +155,11 @@ module _ (p : Content) (old : is_three p.version ≡ false) (id : ℕ) (m : Memb
       let w : Write = write_at (tpdo_object c.message.tpdo) 5 (little_bytes 2 c.message.event) in
       let test = entry_takes p id m node.there c.message.tpdo c.message.node Bits16 5 c.message.event sends.sender
       asked.event other in
-      let has : Contains (event m.sections id c) w = in_time m.sections id (tpdo_object c.message.tpdo) 5
+      let has : Contains (event m.sheet id c) w = in_time m.sheet id (tpdo_object c.message.tpdo) 5
       c.message.event test in
-      sent_is_there p id m c w node sends (by_old p old id m c w (in_tpdo m.sections id c w
-      (Contains-append_left (inhibit m.sections id c ++ event m.sections id c) (start m.sections id c) w
-      (Contains-append_right (inhibit m.sections id c) (event m.sections id c) w has))))
+      sent_is_there p id m c w node sends (by_old p old id m c w (in_tpdo m.sheet id c w
+      (Contains-append_left (inhibit m.sheet id c ++ event m.sheet id c) (start m.sheet id c) w
+      (Contains-append_right (inhibit m.sheet id c) (event m.sheet id c) w has))))
 
   pub start_written : (c.start ≡ 0 → ⊥)
       → Contains (writes_of p m id) (write_at (tpdo_object c.message.tpdo) 6 (c.start ∷ []))
@@ -167,6 +167,6 @@ module _ (p : Content) (old : is_three p.version ≡ false) (id : ℕ) (m : Memb
       let w : Write = write_at (tpdo_object c.message.tpdo) 6 (c.start ∷ []) in
       let test = entry_takes p id m node.there c.message.tpdo c.message.node Bits8 6 c.start sends.sender asked.start
       other in
-      let has : Contains (start m.sections id c) w = in_start m.sections id (tpdo_object c.message.tpdo) c.start test in
-      sent_is_there p id m c w node sends (by_old p old id m c w (in_tpdo m.sections id c w
-      (Contains-append_right (inhibit m.sections id c ++ event m.sections id c) (start m.sections id c) w has)))
+      let has : Contains (start m.sheet id c) w = in_start m.sheet id (tpdo_object c.message.tpdo) c.start test in
+      sent_is_there p id m c w node sends (by_old p old id m c w (in_tpdo m.sheet id c w
+      (Contains-append_right (inhibit m.sheet id c ++ event m.sheet id c) (start m.sheet id c) w has)))

@@ -8,11 +8,10 @@ use Rattle.std.proofs.lemmas.List.{reverse-append}
 use Rattle.std.proofs.lemmas.List.Elements.{All-head, All-tail}
 use Rattle.std.proofs.lemmas.List.Folds.{find-append}
 use Rattle.std.proofs.lemmas.Option.{same_Some}
-use Rattle.ini_text.specs.Content.{Section}
 use Rattle.concise_dcf.specs.declared.write.Write.{Write}
 use Rattle.co_values.specs.declared.data_type.DataType.{DataType}
 use Rattle.co_values.specs.declared.form.Form.{Form}
-use Rattle.co_values.specs.declared.form.Form.TheVariants.{Flag, Signed, Unsigned, Characters, HexPairs, Unmodelled}
+use Rattle.co_values.specs.declared.form.Form.TheVariants.{Flag, Signed, Unsigned, Decimal, Characters, HexPairs, Unmodelled}
 use Rattle.co_values.specs.Types.{form, is_modelled, is_modelled_form}
 use Rattle.co_values.specs.Values.{text_of_value, value, value_in}
 use Rattle.co_dict.specs.declared.entry.Entry.{Entry}
@@ -21,7 +20,8 @@ use Rattle.cia301.specs.PdoObjects.{is_of_pdos}
 use Rattle.node_parameters.proofs.ParameterLemmas.{kind_of_entry}
 use Rattle.eds_device.specs.Described.{unless_empty, value_text}
 use Rattle.eds_device.specs.Entries.{entry_at}
-use Rattle.eds_dcf.specs.Dcf.{dcf_sections}
+use Rattle.eds_device.specs.Sheets.{Sheet}
+use Rattle.eds_dcf.specs.Dcf.{dcf_sheet}
 use Rattle.eds_dcf.specs.Writes.{is_to, last_of}
 use Rattle.eds_dcf.proofs.AgainLemmas.{printed_some}
 use Rattle.eds_dcf.proofs.CarriedLemmas.{dcf_entry, keep_some, text_stands, typed}
@@ -36,6 +36,7 @@ none_in : (f : Form) (text : List ℕ) (node : ℕ) → is_modelled_form f ≡ f
 none_in Flag text node e = cc
 none_in (Signed w) text node e = cc
 none_in (Unsigned w) text node e = cc
+none_in (Decimal real) text node e = cc
 none_in Characters text node e = cc
 none_in HexPairs text node e = cc
 none_in Unmodelled text node e = refl
@@ -48,47 +49,47 @@ no_value kind node e (Some text) = none_in (form kind) text node e
 
 -- ---- one entry
 
-module _ (ss : List Section) (node : ℕ) (name : List ℕ) (bitrate : ℕ) (ws : List Write)
-    (all : All (λ (w : Write). IsGiven ss node (w.index, w.sub) w.bytes) ws) where
-  abbrev dcf : List Section
-  dcf = dcf_sections ss node name bitrate ws
+module _ (sheet : Sheet) (node : ℕ) (name : List ℕ) (bitrate : ℕ) (ws : List Write)
+    (all : All (λ (w : Write). IsGiven sheet node (w.index, w.sub) w.bytes) ws) where
+  abbrev dcf : Sheet
+  dcf = dcf_sheet sheet node name bitrate ws
 
   abbrev given_by : ℕ × ℕ → Entry → Option (List ℕ)
   given_by place entry = cond (is_writable entry.access)
-      (option_and_then (λ text. value entry.kind text node) (value_text dcf place.0 place.1)) None
+      (option_and_then (λ text. value entry.kind text node) (value_text dcf.sections place.0 place.1)) None
 
-  left : (place : ℕ × ℕ) → IfSome (last_of ws place) (IsGiven ss node place)
-  left place = left_holds (IsGiven ss node) ws place all
+  left : (place : ℕ × ℕ) → IfSome (last_of ws place) (IsGiven sheet node place)
+  left place = left_holds (IsGiven sheet node) ws place all
 
   -- the text that stands for an entry that may be written
-  text_of_entry : (place : ℕ × ℕ) (entry : Entry) → entry_at ss node place.0 place.1 ≡ Some entry
+  text_of_entry : (place : ℕ × ℕ) (entry : Entry) → entry_at sheet node place.0 place.1 ≡ Some entry
       → is_modelled entry.kind ≡ true → is_writable entry.access ≡ true
-      → value_text dcf place.0 place.1 ≡ option_and_then unless_empty (option_map (text_of_value entry.kind)
+      → value_text dcf.sections place.0 place.1 ≡ option_and_then unless_empty (option_map (text_of_value entry.kind)
       (last_of ws place))
   text_of_entry place entry there modelled writable =
       text_stands dcf place
       ∙ ap (option_and_then unless_empty)
-      (dcf_stands ss node name bitrate ws place (typed ss node place.0 place.1 entry there modelled writable)
+      (dcf_stands sheet node name bitrate ws place (typed sheet node place.0 place.1 entry there modelled writable)
       ∙ ap (λ (k : DataType). option_map (text_of_value k) (last_of ws place))
-      (kind_of_entry ss node place.0 place.1 entry there))
+      (kind_of_entry sheet node place.0 place.1 entry there))
 
   -- an entry that has none
-  none_given : (place : ℕ × ℕ) (entry : Entry) → entry_at ss node place.0 place.1 ≡ Some entry → last_of ws place ≡ None
+  none_given : (place : ℕ × ℕ) (entry : Entry) → entry_at sheet node place.0 place.1 ≡ Some entry → last_of ws place ≡ None
       → given_by place entry ≡ None
   none_given place entry there none = by (is_writable entry.access) (is_modelled entry.kind) refl refl
     where
       by : (t u : Bool) → is_writable entry.access ≡ t → is_modelled entry.kind ≡ u
-          → cond t (option_and_then (λ text. value entry.kind text node) (value_text dcf place.0 place.1)) None ≡ None
+          → cond t (option_and_then (λ text. value entry.kind text node) (value_text dcf.sections place.0 place.1)) None ≡ None
       by false u writable modelled = refl
-      by true false writable modelled = no_value entry.kind node modelled (value_text dcf place.0 place.1)
+      by true false writable modelled = no_value entry.kind node modelled (value_text dcf.sections place.0 place.1)
       by true true writable modelled =
           ap (option_and_then (λ text. value entry.kind text node))
           (text_of_entry place entry there modelled writable
           ∙ ap (λ o. option_and_then unless_empty (option_map (text_of_value entry.kind) o)) none)
 
   -- one that has a value
-  some_given : (place : ℕ × ℕ) (entry : Entry) (bytes : List ℕ) → entry_at ss node place.0 place.1 ≡ Some entry
-      → last_of ws place ≡ Some bytes → IsGiven ss node place bytes
+  some_given : (place : ℕ × ℕ) (entry : Entry) (bytes : List ℕ) → entry_at sheet node place.0 place.1 ≡ Some entry
+      → last_of ws place ≡ Some bytes → IsGiven sheet node place bytes
       → given_by place entry ≡ Some bytes
   some_given place entry bytes there last given =
       let same : given.entry ≡ entry = same_Some given.entry entry (sym given.there ∙ there) in
@@ -99,19 +100,20 @@ module _ (ss : List Section) (node : ℕ) (name : List ℕ) (bitrate : ℕ) (ws 
       let again : value entry.kind (text_of_value entry.kind bytes) node
       ≡ Some bytes = subst (λ (e : Entry). value e.kind (text_of_value e.kind bytes) node
       ≡ Some bytes) same given.again in
-      let text : value_text dcf place.0 place.1 ≡ Some (text_of_value entry.kind bytes) =
+      let text : value_text dcf.sections place.0 place.1 ≡ Some (text_of_value entry.kind bytes) =
       text_of_entry place entry there modelled writable
       ∙ ap (λ o. option_and_then unless_empty (option_map (text_of_value entry.kind) o)) last
-      ∙ keep_some (text_of_value entry.kind bytes) (printed_some entry.kind bytes modelled given.some) in
+      ∙ keep_some (text_of_value entry.kind bytes)
+      (printed_some entry.kind (text_of_value entry.kind bytes) bytes node again given.some) in
       rw (writable, text) again
 
-  pub given : (place : ℕ × ℕ) → value_in_file (dcf_sections ss node name bitrate ws) node place ≡ last_of ws place
+  pub given : (place : ℕ × ℕ) → value_in_file (dcf_sheet sheet node name bitrate ws) node place ≡ last_of ws place
   unfolding value_in_file
-  given place = ap (option_and_then (given_by place)) (dcf_entry ss node name bitrate ws place.0 place.1)
-      ∙ by (entry_at ss node place.0 place.1) (last_of ws place) refl refl (left place)
+  given place = ap (option_and_then (given_by place)) (dcf_entry sheet node name bitrate ws place.0 place.1)
+      ∙ by (entry_at sheet node place.0 place.1) (last_of ws place) refl refl (left place)
     where
-      by : (o : Option Entry) (l : Option (List ℕ)) → entry_at ss node place.0 place.1 ≡ o → last_of ws place ≡ l
-          → IfSome l (IsGiven ss node place) → option_and_then (given_by place) o ≡ l
+      by : (o : Option Entry) (l : Option (List ℕ)) → entry_at sheet node place.0 place.1 ≡ o → last_of ws place ≡ l
+          → IfSome l (IsGiven sheet node place) → option_and_then (given_by place) o ≡ l
       by None None there last is = refl
       by None (Some bytes) there last is = let contrary : (let none : Option Entry = None in none ≡ Some is.entry) =
           sym there ∙ is.there in cc

@@ -7,7 +7,8 @@ use Rattle.std.specs.Option.{option_map_or}
 use Rattle.std.specs.Ordering.{eq_by_cmp}
 use Rattle.std.proofs.lemmas.Cmp.{nat_list_cmp_total}
 use Rattle.std.proofs.lemmas.Map.Lookups.{exact_bytes}
-use Rattle.ini_text.specs.Content.{Content as DataSheet, content_of}
+use Rattle.eds_device.specs.Sheets.{Sheet, sheet_of}
+use Rattle.project_edits.specs.Versions.{is_three}
 use Rattle.base.proofs.EachLemmas.{each_empty, each_found, each_put}
 use Rattle.base.proofs.TableLemmas.{alike, put_again, put_there}
 use Rattle.project_messages.specs.Messages.{name_cmp}
@@ -18,7 +19,7 @@ use Rattle.project_plan.specs.Library.{with_device, AreRead, Devices, IsRead, Re
 use Rattle.project_plan.specs.Network.{device_at}
 
 -- what the project's text of a name describes
-abbrev pub IsDescribed : Content → List ℕ → DataSheet → Type 0
+abbrev pub IsDescribed : Content → List ℕ → Sheet → Type 0
 IsDescribed project name device = device_at project name ≡ Some device
 
 -- what was found behind a reference was found
@@ -27,52 +28,53 @@ pub is_there : {X : Type 0} (result : Option (Bor X)) (found : Option X) → opt
 is_there None found is there = cc
 is_there (Some x) found is there = sym (ap is_some is)
 
-described : (device : DataSheet) (text : List ℕ) → Some (content_of text) ≡ Some device → device ≡ content_of text
-described device text is = cc
+-- what is read of the text of a name by the version of the project is what that describes
+pub read_now : (project : Content) (name text : List ℕ) (device : Sheet) (version : Bool)
+    → text_at project.texts name ≡ Some text → version ≡ is_three project.version → device ≡ sheet_of version text
+    → device_at project name ≡ Some device
+read_now project name text device version there is read =
+    ap (option_map (sheet_of (is_three project.version))) there
+    ∙ ap Some (sym (read ∙ ap (λ (b : Bool). sheet_of b text) is))
 
 -- ---- a library with one more
 
 module _ (read : Read) (name : List ℕ) where
-  with_text : Option (List ℕ) → Read
-  with_text o =
-      record read { devices = option_map_or (λ text. insert read.devices name (content_of text)) o read.devices }
+  with_one : Option Sheet → Read
+  with_one o = record read { devices = option_map_or (insert read.devices name) o read.devices }
 
   -- the device of a name is there afterwards
   pub read_there : AreRead read.project read.devices → IsRead (with_device read name) name
-  unfolding with_text
-  read_there are = by (text_at read.project.texts name) refl
+  unfolding with_one
+  read_there are = by (device_at read.project name) refl
     where
-      none : (o : Option DataSheet) → get read.devices name ≡ o → text_at read.project.texts name ≡ None → o ≡ None
+      none : (o : Option Sheet) → get read.devices name ≡ o → device_at read.project name ≡ None → o ≡ None
       none None found absent = refl
       none (Some device) found absent = cc (
         each_found (IsDescribed read.project) read.devices name device are found,
-        ap (option_map content_of) absent,
+        absent,
       )
 
-      by : (o : Option (List ℕ)) → text_at read.project.texts name ≡ o
-          → get (with_text o).devices name ≡ option_map content_of o
+      by : (o : Option Sheet) → device_at read.project name ≡ o → get (with_one o).devices name ≡ o
       by None absent = none (get read.devices name) refl absent
-      by (Some text) there = put_there nat_list_cmp_total exact_bytes read.devices name (content_of text)
+      by (Some device) there = put_there nat_list_cmp_total exact_bytes read.devices name device
 
   -- as are those that were
   pub read_still : (other : List ℕ) → IsRead read other → IsRead (with_device read name) other
-  unfolding with_text
-  read_still other is = by (text_at read.project.texts name) refl
+  unfolding with_one
+  read_still other is = by (device_at read.project name) refl
     where
-      at : (text : List ℕ) → text_at read.project.texts name ≡ Some text → (t : Bool)
+      at : (device : Sheet) → device_at read.project name ≡ Some device → (t : Bool)
           → eq_by_cmp name_cmp other name ≡ t
-          → cond t (Some (content_of text)) (get read.devices other)
-          ≡ option_map content_of (text_at read.project.texts other)
-      at text there true same = ap (option_map content_of) (sym there)
-          ∙ ap (λ n. option_map content_of (text_at read.project.texts n))
-          (sym (alike nat_list_cmp_total exact_bytes other name same))
-      at text there false apart = is
+          → cond t (Some device) (get read.devices other) ≡ device_at read.project other
+      at device there true same = sym there
+          ∙ ap (λ n. device_at read.project n) (sym (alike nat_list_cmp_total exact_bytes other name same))
+      at device there false apart = is
 
-      by : (o : Option (List ℕ)) → text_at read.project.texts name ≡ o
-          → get (with_text o).devices other ≡ option_map content_of (text_at read.project.texts other)
+      by : (o : Option Sheet) → device_at read.project name ≡ o
+          → get (with_one o).devices other ≡ device_at read.project other
       by None absent = is
-      by (Some text) there = get-insert nat_list_cmp_total read.devices name (content_of text) other
-          ∙ at text there (eq_by_cmp name_cmp other name) refl
+      by (Some device) there = get-insert nat_list_cmp_total read.devices name device other
+          ∙ at device there (eq_by_cmp name_cmp other name) refl
 
 -- no devices
 pub none_read : (project : Content) → AreRead project empty
@@ -83,60 +85,48 @@ pub read_before : (read : Read) (name : List ℕ) → AreRead read.project read.
     → is_some (get read.devices name) ≡ true → read ≡ with_device read name
 read_before read name are there = by (get read.devices name) refl there
   where
-    with : Option (List ℕ) → Read
-    with o = record read { devices = option_map_or (λ text. insert read.devices name (content_of text)) o read.devices }
+    with : Option Sheet → Read
+    with o = record read { devices = option_map_or (insert read.devices name) o read.devices }
 
-    known : (device : DataSheet) (o : Option (List ℕ)) → get read.devices name ≡ Some device
-        → option_map content_of o ≡ Some device → read ≡ with o
-    known device None found is = cc
-    known device (Some text) found is =
+    known : (device : Sheet) → get read.devices name ≡ Some device → read ≡ with (Some device)
+    known device found =
         ap (λ (devices : Devices). record read { devices = devices })
-        (sym (put_again nat_list_cmp_total exact_bytes read.devices name (content_of text) (found ∙ sym is)))
+        (sym (put_again nat_list_cmp_total exact_bytes read.devices name device found))
 
-    by : (o : Option DataSheet) → get read.devices name ≡ o → is_some o ≡ true → read ≡ with_device read name
+    by : (o : Option Sheet) → get read.devices name ≡ o → is_some o ≡ true → read ≡ with_device read name
     by None none there = cc
     by (Some device) found there =
-        known device (text_at read.project.texts name) found
-        (each_found (IsDescribed read.project) read.devices name device are found)
+        known device found
+        ∙ ap with (sym (each_found (IsDescribed read.project) read.devices name device are found))
 
 module _ {A : Type 0} (project : Content) where
   -- what a tree of devices shows
-  abbrev pub shows : List (Vec ℕ A × DataSheet) → Read
+  abbrev pub shows : List (Vec ℕ A × Sheet) → Read
   shows es = record { project = project; devices = made es }
 
-  module _ (es : List (Vec ℕ A × DataSheet)) (read : Read) (name : List ℕ) (is : shows es ≡ read) where
+  module _ (es : List (Vec ℕ A × Sheet)) (read : Read) (name : List ℕ) (is : shows es ≡ read) where
     -- the device of a name
     pub device_found : value_in es name ≡ get read.devices name
     device_found = sym (value_found es name) ∙ ap (λ (r : Read). get r.devices name) is
 
-    -- the text of a name
-    pub text_there : text_at project.texts name ≡ text_at read.project.texts name
-    text_there = ap (λ (r : Read). text_at r.project.texts name) is
+    -- what the text of a name describes
+    pub device_there : device_at project name ≡ device_at read.project name
+    device_there = ap (λ (r : Read). device_at r.project name) is
 
-    -- a name whose text isn't there
-    pub none_there : text_at project.texts name ≡ None → read ≡ with_device read name
-    none_there none =
-        ap (λ o. record read {
-          devices =
-              option_map_or (λ text. insert read.devices name (content_of text)) o read.devices;
-        }) (sym none ∙ text_there)
-
-  module _ (tree after : BTreeMap (Vec ℕ A) DataSheet) (name : List ℕ) (key : Vec ℕ A) (device : DataSheet) (text : List ℕ)
-      (same : key.items ≡ name) (is : device ≡ content_of text) (there : text_at project.texts name ≡ Some text)
+  module _ (tree after : BTreeMap (Vec ℕ A) Sheet) (name : List ℕ) (key : Vec ℕ A) (device : Sheet)
+      (same : key.items ≡ name) (there : device_at project name ≡ Some device)
       (updates : Updates key_cmp tree after key (Some device)) where
     -- a device that is put
-    device_put : made after.entries ≡ insert (made tree.entries) name (content_of text)
+    device_put : made after.entries ≡ insert (made tree.entries) name device
     device_put =
         value_put tree.entries after.entries key device updates.0 ∙ ap (λ n. insert (made tree.entries) n device) same
-        ∙ ap (insert (made tree.entries) name) is
 
     pub device_added : (read : Read) → shows tree.entries ≡ read → shows after.entries ≡ with_device read name
     device_added read seen =
         ap (λ (devices : Devices). record { project = project; devices = devices }) device_put
         ∙ ap (λ o. record {
           project = project;
-          devices =
-              option_map_or (λ text. insert (made tree.entries) name (content_of text)) o (made tree.entries);
+          devices = option_map_or (insert (made tree.entries) name) o (made tree.entries);
         })
         (sym there)
         ∙ ap (λ (r : Read). with_device r name) seen
@@ -145,20 +135,4 @@ module _ {A : Type 0} (project : Content) where
     pub added_described : AreRead project (made tree.entries) → AreRead project (made after.entries)
     added_described are =
         subst (AreRead project) (sym device_put)
-        (each_put nat_list_cmp_total exact_bytes (IsDescribed project)
-        (made tree.entries) name (content_of text) are (ap (option_map content_of) there))
-
-  module _ (tree after : BTreeMap (Vec ℕ A) DataSheet) (name : List ℕ) (key : Vec ℕ A) (device : DataSheet)
-      (same : key.items ≡ name) (updates : Updates key_cmp tree after key (Some device)) where
-    -- a device that is put, where the text of its name describes it
-    pub put_by_text : (o : Option (List ℕ)) → text_at project.texts name ≡ o → option_map content_of o ≡ Some device
-        → (read : Read) → shows tree.entries ≡ read → shows after.entries ≡ with_device read name
-    put_by_text None none is read seen = cc
-    put_by_text (Some text) there is read seen =
-        device_added tree after name key device text same (described device text is) there updates read seen
-
-    pub added_by_text : (o : Option (List ℕ)) → text_at project.texts name ≡ o → option_map content_of o ≡ Some device
-        → AreRead project (made tree.entries) → AreRead project (made after.entries)
-    added_by_text None none is are = cc
-    added_by_text (Some text) there is are =
-        added_described tree after name key device text same (described device text is) there updates are
+        (each_put nat_list_cmp_total exact_bytes (IsDescribed project) (made tree.entries) name device are there)

@@ -11,9 +11,11 @@ use Rattle.std.proofs.lemmas.List.Elements.{All-from_recursion, All-head, All-ma
 use Rattle.base.specs.Bytes.{AreBytes}
 use Rattle.base.specs.Ranges.{is_between, AreIndices}
 use Rattle.co_values.specs.declared.form.Form.{Form}
-use Rattle.co_values.specs.declared.form.Form.TheVariants.{Flag, Signed, Unsigned, Characters, HexPairs, Unmodelled}
+use Rattle.co_values.specs.declared.form.Form.TheVariants.{Flag, Signed, Unsigned, Decimal, Characters, HexPairs, Unmodelled}
 use Rattle.co_values.specs.declared.form.Width.{Width}
-use Rattle.co_values.specs.declared.form.Width.TheVariants.{Bits8, Bits16, Bits32, Bits64}
+use Rattle.co_values.specs.declared.form.Width.TheVariants.{Bits8, Bits16, Bits24, Bits32, Bits40, Bits48, Bits56, Bits64}
+use Rattle.real_texts.specs.declared.real.Real.{Real}
+use Rattle.real_texts.specs.declared.real.Real.TheVariants.{Real32, Real64}
 use Rattle.co_values.specs.Types.{bits_of_form, form, width_bits}
 use Rattle.co_dict.specs.declared.entry.Entry.{Entry}
 use Rattle.project_messages.specs.declared.linked.Linked.{Linked}
@@ -38,7 +40,7 @@ use Rattle.pdo_links.proofs.Values.{two_bytes}
 use Rattle.co_project.specs.Project.{Content}
 use Rattle.co_project.specs.Sound.{IsSound}
 use Rattle.project_edits.specs.Versions.{is_three}
-use Rattle.project_plan.specs.Network.{sections_of_members, plan_of_project}
+use Rattle.project_plan.specs.Network.{sheets_of_members, plan_of_project}
 use Rattle.project_plan.proofs.AloneLemmas.{all_linked}
 
 -- ---- bytes
@@ -51,22 +53,25 @@ mappable m bits sub zero = bits
 mappable m bits sub (suc zero) = sub
 mappable m bits sub (suc (suc i)) = two_bytes m.index i
 
+few_of_width : (w : Width) (bits : ℕ) → bits_of_form (Unsigned w) ≡ Some bits → bits < 256
+few_of_width Bits8 bits e = let same : 8 ≡ bits = cc in omega arith
+few_of_width Bits16 bits e = let same : 16 ≡ bits = cc in omega arith
+few_of_width Bits24 bits e = let same : 24 ≡ bits = cc in omega arith
+few_of_width Bits32 bits e = let same : 32 ≡ bits = cc in omega arith
+few_of_width Bits40 bits e = let same : 40 ≡ bits = cc in omega arith
+few_of_width Bits48 bits e = let same : 48 ≡ bits = cc in omega arith
+few_of_width Bits56 bits e = let same : 56 ≡ bits = cc in omega arith
+few_of_width Bits64 bits e = let same : 64 ≡ bits = cc in omega arith
+
 few_by_form : (f : Form) (bits : ℕ) → bits_of_form f ≡ Some bits → bits < 256
 few_by_form Flag bits e = let same : 1 ≡ bits = cc in omega arith
-few_by_form (Signed w) bits e = by w e
+few_by_form (Signed w) bits e = few_of_width w bits e
+few_by_form (Unsigned w) bits e = few_of_width w bits e
+few_by_form (Decimal real) bits e = by real e
   where
-    by : (w : Width) → bits_of_form (Signed w) ≡ Some bits → bits < 256
-    by Bits8 e = let same : 8 ≡ bits = cc in omega arith
-    by Bits16 e = let same : 16 ≡ bits = cc in omega arith
-    by Bits32 e = let same : 32 ≡ bits = cc in omega arith
-    by Bits64 e = let same : 64 ≡ bits = cc in omega arith
-few_by_form (Unsigned w) bits e = by w e
-  where
-    by : (w : Width) → bits_of_form (Unsigned w) ≡ Some bits → bits < 256
-    by Bits8 e = let same : 8 ≡ bits = cc in omega arith
-    by Bits16 e = let same : 16 ≡ bits = cc in omega arith
-    by Bits32 e = let same : 32 ≡ bits = cc in omega arith
-    by Bits64 e = let same : 64 ≡ bits = cc in omega arith
+    by : (real : Real) → bits_of_form (Decimal real) ≡ Some bits → bits < 256
+    by Real32 e = let same : 32 ≡ bits = cc in omega arith
+    by Real64 e = let same : 64 ≡ bits = cc in omega arith
 few_by_form Characters bits e = cc
 few_by_form HexPairs bits e = cc
 few_by_form Unmodelled bits e = cc
@@ -200,6 +205,6 @@ writable devices withheld before m c kept e =
 pub all_writable : (p : Content) → IsSound p → All IsWritable (clean (plan_of_project p))
 unfolding plan_of_project
 all_writable p sound =
-    let devices : Devices = devices_of (is_three p.version) (sections_of_members p) in
+    let devices : Devices = devices_of (is_three p.version) (sheets_of_members p) in
     all_clean IsWritable _ (each_within devices (λ before c. IsWritable c) (writable devices) (entries p.messages)
     (all_linked p sound))

@@ -6,42 +6,44 @@ use Rattle.ini_text.specs.Content.{content_of}
 use Rattle.base.proofs.EachLemmas.{each_found}
 use Rattle.cia301.specs.PdoObjects.{is_of_pdos}
 use Rattle.project_edits.specs.Edits.{IsSetting}
+use Rattle.project_edits.specs.Versions.{is_three}
 use Rattle.eds_device.specs.Faults.{device_of}
+use Rattle.eds_device.specs.Sheets.{Sheet, sheet_of}
 use Rattle.co_project.specs.declared.node.Node.{Node}
 use Rattle.co_project.specs.Project.{Content}
 use Rattle.co_project.specs.Sound.{AreParams, IsNodeOf, IsSound}
 use Rattle.co_project.specs.Tables.{node_at, text_at}
 use Rattle.co_project.proofs.SoundLemmas.{texts_are_devices}
-use Rattle.project_plan.specs.Network.{member_at, with_sections, Member}
+use Rattle.project_plan.specs.Network.{member_at, with_sheet, Member}
 
 -- the node of a number with the text of its EDS
 pub record IsMember (p : Content) (id : ℕ) (m : Member) : Type 0 where
   pub node : node_at p.nodes id ≡ Some m.node
   pub text : List ℕ
   pub there : text_at p.texts m.node.eds ≡ Some text
-  pub sections : (content_of text).sections ≡ m.sections
+  pub read : sheet_of (is_three p.version) text ≡ m.sheet
 
-abbrev made : Node → List ℕ → Member
-made node text = record { node = node; sections = (content_of text).sections }
+abbrev made : Node → Sheet → Member
+made node sheet = record { node = node; sheet = sheet }
 
 pub member : (p : Content) (id : ℕ) (m : Member) → member_at p id ≡ Some m → IsMember p id m
 unfolding member_at
 member p id m found = by (node_at p.nodes id) refl found
   where
     with : (node : Node) → node_at p.nodes id ≡ Some node → (o : Option (List ℕ)) → text_at p.texts node.eds ≡ o
-        → option_map (made node) o ≡ Some m → IsMember p id m
+        → option_map (made node) (option_map (sheet_of (is_three p.version)) o) ≡ Some m → IsMember p id m
     with node known None none is = cc
     with node known (Some text) there is =
-        let same : made node text ≡ m = cc in
+        let same : made node (sheet_of (is_three p.version) text) ≡ m = cc in
         let itself : node ≡ m.node = ap (λ (x : Member). x.node) same in
         record {
           node = known ∙ ap Some itself;
           text = text;
           there = ap (λ (n : Node). text_at p.texts n.eds) (sym itself) ∙ there;
-          sections = ap (λ (x : Member). x.sections) same;
+          read = ap (λ (x : Member). x.sheet) same;
         }
 
-    by : (o : Option Node) → node_at p.nodes id ≡ o → option_and_then (with_sections p) o ≡ Some m → IsMember p id m
+    by : (o : Option Node) → node_at p.nodes id ≡ o → option_and_then (with_sheet p) o ≡ Some m → IsMember p id m
     by None none is = cc
     by (Some node) known is = with node known (text_at p.texts node.eds) refl is
 

@@ -27,7 +27,7 @@ use Rattle.pdo_plan.proofs.JudgedLemmas.{consumer_is, judged_clean}
 use Rattle.pdo_choices.proofs.OrderLemmas.{all_inserted}
 use Rattle.pdo_links.specs.Order.{IsNamedByNone}
 use Rattle.project_edits.specs.Versions.{is_three}
-use Rattle.project_plan.specs.Network.{sections_of_members, plan_of_project}
+use Rattle.project_plan.specs.Network.{sheets_of_members, plan_of_project}
 
 module _ (node : ℕ) where
   abbrev IsOther : ℕ → Type 0
@@ -102,6 +102,6 @@ module _ (node : ℕ) where
       → IsNamedByNone (clean (plan_of_project p)) node
   unfolding plan_of_project
   named_by_none p none c has =
-      let devices : Devices = devices_of (is_three p.version) (sections_of_members p) in
+      let devices : Devices = devices_of (is_three p.version) (sheets_of_members p) in
       All-contains (Unnamed devices) (clean (plan_of devices (entries p.messages))) c
       (All-from_recursion (Unnamed devices) _ (unnamed_all devices (entries p.messages) none)) has

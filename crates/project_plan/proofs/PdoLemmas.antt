@@ -20,12 +20,12 @@ use Rattle.cia301.specs.PdoObjects.{is_of_pdos, mapping_object, rpdo_object, tpd
 use Rattle.co_values.specs.declared.form.Width.TheVariants.{Bits8, Bits16}
 use Rattle.cia301.specs.CobIds.{no_rtr_bit, off_bit}
 use Rattle.concise_dcf.specs.declared.write.Write.{Write}
-use Rattle.ini_text.specs.Content.{Section}
 use Rattle.node_parameters.specs.Params.{Texts}
 use Rattle.node_parameters.specs.Parameters.{parameter_text, parameter_writes}
 use Rattle.concise_dcf.specs.Writes.{place_of}
 use Rattle.node_parameters.proofs.ParameterLemmas.{nothing_else, pdo_text}
 use Rattle.eds_device.specs.Entries.{entry_at}
+use Rattle.eds_device.specs.Sheets.{Sheet}
 use Rattle.pdo_stations.specs.declared.mapped.Mapped.{Mapped}
 use Rattle.pdo_stations.specs.Devices.{takes_unsigned}
 use Rattle.pdo_choices.specs.declared.clean.Clean.{Clean}
@@ -99,16 +99,16 @@ module _ (p : Write → Bool) where
 
 module _ (P : Write → Type 0) where
   module _ (object : ℕ) (each : (sub : ℕ) (bytes : List ℕ) → P (write_at object sub bytes)) where
-    time_all : (ss : List Section) (node sub time : ℕ) → All P (time_write ss node object sub time)
-    time_all ss node sub time = by (option_map_or (takes_unsigned Bits16) (entry_at ss node object sub) false)
+    time_all : (sheet : Sheet) (node sub time : ℕ) → All P (time_write sheet node object sub time)
+    time_all sheet node sub time = by (option_map_or (takes_unsigned Bits16) (entry_at sheet node object sub) false)
       where
         by : (b : Bool) → let ws : List Write = if b then write_at object sub (little_bytes 2 time) ∷ [] else []
             in All P ws
         by true = All-cons P (write_at object sub (little_bytes 2 time)) [] (each sub (little_bytes 2 time)) (All-nil P)
         by false = All-nil P
 
-    start_all : (ss : List Section) (node start : ℕ) → All P (start_write ss node object start)
-    start_all ss node start = by (option_map_or (takes_unsigned Bits8) (entry_at ss node object 6) false)
+    start_all : (sheet : Sheet) (node start : ℕ) → All P (start_write sheet node object start)
+    start_all sheet node start = by (option_map_or (takes_unsigned Bits8) (entry_at sheet node object 6) false)
       where
         by : (b : Bool) → let ws : List Write = if b then write_at object 6 (start ∷ []) ∷ [] else [] in All P ws
         by true = All-cons P (write_at object 6 (start ∷ [])) [] (each 6 (start ∷ [])) (All-nil P)
@@ -128,10 +128,10 @@ module _ (P : Write → Type 0) where
 
   module _ (object : ℕ) (each : (sub : ℕ) (bytes : List ℕ) → P (write_at object sub bytes))
       (mapped : (sub : ℕ) (bytes : List ℕ) → P (write_at (mapping_object object) sub bytes)) where
-    pub tpdo_all : (ss : List Section) (node : ℕ) (c : Clean) → tpdo_object c.message.tpdo ≡ object
-        → All P (tpdo_writes ss node c)
+    pub tpdo_all : (sheet : Sheet) (node : ℕ) (c : Clean) → tpdo_object c.message.tpdo ≡ object
+        → All P (tpdo_writes sheet node c)
     unfolding tpdo_writes
-    tpdo_all ss node c is =
+    tpdo_all sheet node c is =
         let whole : (o : ℕ) → o ≡ object → (sub : ℕ) (bytes : List ℕ)
         → P (write_at o sub bytes) = λ o same sub bytes. subst (λ (i : ℕ). P (write_at i sub bytes)) (sym same)
         (each sub bytes) in
@@ -140,9 +140,9 @@ module _ (P : Write → Type 0) where
         (mapped sub bytes) in
         let own : ℕ = tpdo_object c.message.tpdo in
         let on : List Write = cob_write own (no_rtr_bit + c.identifier) ∷ [] in
-        let times : List Write = time_write ss node own 3 c.message.inhibit ++ time_write ss node own 5 c.message.event
+        let times : List Write = time_write sheet node own 3 c.message.inhibit ++ time_write sheet node own 5 c.message.event
         in
-        let start : List Write = start_write ss node own c.start in
+        let start : List Write = start_write sheet node own c.start in
         let rest : List Write = times ++ start ++ mapping_writes (mapping_object own) c.mapping in
         let kind : List ℕ = c.message.transmission ∷ [] in
         let off : ℕ = off_bit + (no_rtr_bit + c.identifier) in
@@ -151,10 +151,10 @@ module _ (P : Write → Type 0) where
         (All-append P rest on
         (All-append P (times ++ start) (mapping_writes (mapping_object own) c.mapping)
         (All-append P times start
-        (All-append P (time_write ss node own 3 c.message.inhibit) (time_write ss node own 5 c.message.event)
-        (time_all own (whole own is) ss node 3 c.message.inhibit)
-        (time_all own (whole own is) ss node 5 c.message.event))
-        (start_all own (whole own is) ss node c.start))
+        (All-append P (time_write sheet node own 3 c.message.inhibit) (time_write sheet node own 5 c.message.event)
+        (time_all own (whole own is) sheet node 3 c.message.inhibit)
+        (time_all own (whole own is) sheet node 5 c.message.event))
+        (start_all own (whole own is) sheet node c.start))
         (mapping_all (mapping_object own) (inner (mapping_object own) (ap mapping_object is)) c.mapping))
         (All-cons P (cob_write own (no_rtr_bit + c.identifier)) []
         (whole own is 1 (little_bytes 4 (no_rtr_bit + c.identifier))) (All-nil P))))
@@ -195,11 +195,11 @@ apart object index other outside = grind (arith, nat_tests)
 
 module _ (object : ℕ) where
   -- the writes to other objects don't pass
-  tpdo_outside : (ss : List Section) (node : ℕ) (c : Clean) (own : ℕ) → tpdo_object c.message.tpdo ≡ own
-      → IsApart object own → IsApart object (mapping_object own) → filter (is_to_pdo object) (tpdo_writes ss node c) ≡ []
-  tpdo_outside ss node c own is first second =
-      none_pass (is_to_pdo object) (tpdo_writes ss node c)
-      (tpdo_all (λ w. is_to_pdo object w ≡ false) own (λ sub bytes. first) (λ sub bytes. second) ss node c is)
+  tpdo_outside : (sheet : Sheet) (node : ℕ) (c : Clean) (own : ℕ) → tpdo_object c.message.tpdo ≡ own
+      → IsApart object own → IsApart object (mapping_object own) → filter (is_to_pdo object) (tpdo_writes sheet node c) ≡ []
+  tpdo_outside sheet node c own is first second =
+      none_pass (is_to_pdo object) (tpdo_writes sheet node c)
+      (tpdo_all (λ w. is_to_pdo object w ≡ false) own (λ sub bytes. first) (λ sub bytes. second) sheet node c is)
 
   rpdo_outside : (c : Clean) (k : Consumer) (own : ℕ) → rpdo_object k.rpdo ≡ own → IsApart object own
       → IsApart object (mapping_object own) → filter (is_to_pdo object) (rpdo_writes c k) ≡ []
@@ -208,12 +208,12 @@ module _ (object : ℕ) where
       (rpdo_all (λ w. is_to_pdo object w ≡ false) own (λ sub bytes. first) (λ sub bytes. second) c k is)
 
   -- those to its own do
-  tpdo_inside : (ss : List Section) (node : ℕ) (c : Clean) → tpdo_object c.message.tpdo ≡ object
-      → filter (is_to_pdo object) (tpdo_writes ss node c) ≡ tpdo_writes ss node c
-  tpdo_inside ss node c is =
-      all_pass (is_to_pdo object) (tpdo_writes ss node c)
+  tpdo_inside : (sheet : Sheet) (node : ℕ) (c : Clean) → tpdo_object c.message.tpdo ≡ object
+      → filter (is_to_pdo object) (tpdo_writes sheet node c) ≡ tpdo_writes sheet node c
+  tpdo_inside sheet node c is =
+      all_pass (is_to_pdo object) (tpdo_writes sheet node c)
       (tpdo_all (λ w. is_to_pdo object w ≡ true) object (λ sub bytes. itself object)
-      (λ sub bytes. its_mapping object) ss node c is)
+      (λ sub bytes. its_mapping object) sheet node c is)
 
   rpdo_inside : (c : Clean) (k : Consumer) → rpdo_object k.rpdo ≡ object
       → filter (is_to_pdo object) (rpdo_writes c k) ≡ rpdo_writes c k
@@ -224,9 +224,9 @@ module _ (object : ℕ) where
 
 -- ---- by number
 
-module _ (cs : List Clean) (ss : List Section) (node object : ℕ) where
+module _ (cs : List Clean) (sheet : Sheet) (node object : ℕ) where
   abbrev sent : ℕ → List Write
-  sent number = at_number (tpdo_writes ss node) (filter_map (tpdo_of node) cs) number
+  sent number = at_number (tpdo_writes sheet node) (filter_map (tpdo_of node) cs) number
 
   abbrev taken : ℕ → List Write
   taken number = at_number (λ (t : Clean × Consumer). rpdo_writes t.0 t.1) (filter_map (rpdo_of node) cs) number
@@ -236,10 +236,10 @@ module _ (cs : List Clean) (ss : List Section) (node object : ℕ) where
   sent_outside k first second = by (lookup (is_at (nat_cmp k)) (filter_map (tpdo_of node) cs)) refl
     where
       by : (o : Option Clean) → lookup (is_at (nat_cmp k)) (filter_map (tpdo_of node) cs) ≡ o
-          → filter (is_to_pdo object) (option_map_or (tpdo_writes ss node) o []) ≡ []
+          → filter (is_to_pdo object) (option_map_or (tpdo_writes sheet node) o []) ≡ []
       by None e = refl
       by (Some c) e = let s : Sends cs node k c = sends cs node k c e
-          in tpdo_outside object ss node c (tpdo_object k) (ap tpdo_object s.numbered) first second
+          in tpdo_outside object sheet node c (tpdo_object k) (ap tpdo_object s.numbered) first second
 
   taken_outside : (k : ℕ) → IsApart object (rpdo_object k) → IsApart object (mapping_object (rpdo_object k))
       → filter (is_to_pdo object) (taken k) ≡ []
@@ -252,33 +252,33 @@ module _ (cs : List Clean) (ss : List Section) (node object : ℕ) where
           in rpdo_outside object t.0 t.1 (rpdo_object k) (ap rpdo_object s.numbered) first second
 
 -- the parameters are of other objects
-pub not_pdo : (ss : List Section) (params : Texts) (node : ℕ)
+pub not_pdo : (sheet : Sheet) (params : Texts) (node : ℕ)
     → ((place : ℕ × ℕ) → is_of_pdos place.0 ≡ true → get params place ≡ None)
-    → (w : Write) → Contains (parameter_writes ss params node) w → is_of_pdos w.index ≡ false
-not_pdo ss params node none w has = by (is_of_pdos w.index) refl
+    → (w : Write) → Contains (parameter_writes sheet params node) w → is_of_pdos w.index ≡ false
+not_pdo sheet params node none w has = by (is_of_pdos w.index) refl
   where
     by : (b : Bool) → is_of_pdos w.index ≡ b → b ≡ false
     by false e = refl
     by true e =
-        let text : (text : List ℕ) × (parameter_text ss params (place_of w) ≡ Some text)
-        × _ = nothing_else ss params node w has in
-        let no_text : parameter_text ss params (place_of w) ≡ None = pdo_text ss params (place_of w)
+        let text : (text : List ℕ) × (parameter_text sheet.sections params (place_of w) ≡ Some text)
+        × _ = nothing_else sheet params node w has in
+        let no_text : parameter_text sheet.sections params (place_of w) ≡ None = pdo_text sheet params (place_of w)
         (none (place_of w) e) e in
         let contrary : (let n : Option (List ℕ) = None in n ≡ Some text.0) = sym no_text ∙ text.1 in
         cc
 
-module _ (ss : List Section) (params : Texts) (node object : ℕ)
+module _ (sheet : Sheet) (params : Texts) (node object : ℕ)
     (none : (place : ℕ × ℕ) → is_of_pdos place.0 ≡ true → get params place ≡ None)
     (low : 0x1400 ≤ object) (high : object + 0x200 ≤ 0x1BFF) where
   pub outside : (index : ℕ) → is_between 0x1400 0x1BFF index ≡ false → IsApart object index
   outside index e = grind (arith, nat_tests)
 
-  pub no_parameters : filter (is_to_pdo object) (parameter_writes ss params node) ≡ []
+  pub no_parameters : filter (is_to_pdo object) (parameter_writes sheet params node) ≡ []
   no_parameters =
-      none_pass (is_to_pdo object) (parameter_writes ss params node)
-      (All-weaker (Contains (parameter_writes ss params node)) (λ w. is_to_pdo object w ≡ false)
-      (λ w has. outside w.index (not_pdo ss params node none w has)) (parameter_writes ss params node)
-      (All-contains_itself (parameter_writes ss params node)))
+      none_pass (is_to_pdo object) (parameter_writes sheet params node)
+      (All-weaker (Contains (parameter_writes sheet params node)) (λ w. is_to_pdo object w ≡ false)
+      (λ w has. outside w.index (not_pdo sheet params node none w has)) (parameter_writes sheet params node)
+      (All-contains_itself (parameter_writes sheet params node)))
 
 -- ---- all writes of a node
 
@@ -286,19 +286,19 @@ pub three : (p : Write → Bool) (xs ys zs : List Write)
     → filter p (xs ++ (ys ++ zs)) ≡ filter p xs ++ (filter p ys ++ filter p zs)
 three p xs ys zs = filter-append p xs (ys ++ zs) ∙ ap (λ (ws : List Write). filter p xs ++ ws) (filter-append p ys zs)
 
-module _ (plan : List PlannedMessage) (params : Texts) (ss : List Section) (node : ℕ)
+module _ (plan : List PlannedMessage) (params : Texts) (sheet : Sheet) (node : ℕ)
     (none : (place : ℕ × ℕ) → is_of_pdos place.0 ≡ true → get params place ≡ None) where
   abbrev cs : List Clean
   cs = clean plan
 
   abbrev tpdos : List Write
-  tpdos = by_number (tpdo_writes ss node) (filter_map (tpdo_of node) (clean plan))
+  tpdos = by_number (tpdo_writes sheet node) (filter_map (tpdo_of node) (clean plan))
 
   abbrev rpdos : List Write
   rpdos = by_number (λ (t : Clean × Consumer). rpdo_writes t.0 t.1) (filter_map (rpdo_of node) (clean plan))
 
   pub to_tpdo : (c : Clean) → IsSentAlone (clean plan) node c
-      → to_pdo (tpdo_object c.message.tpdo) (node_writes false plan params ss node) ≡ tpdo_writes ss node c
+      → to_pdo (tpdo_object c.message.tpdo) (node_writes false plan params sheet node) ≡ tpdo_writes sheet node c
   unfolding to_pdo node_writes set_link_writes by_number
   to_tpdo c alone =
       let n : ℕ = c.message.tpdo in
@@ -307,26 +307,26 @@ module _ (plan : List PlannedMessage) (params : Texts) (ss : List Section) (node
       let low : 1 ≤ n = numbered.0 in
       let high : n ≤ 512 = numbered.1 in
       let p : Write → Bool = is_to_pdo object in
-      let parameters : filter p (parameter_writes ss params node)
-      ≡ [] = no_parameters ss params node object none (omega arith) (omega arith) in
-      let own : filter p tpdos ≡ filter p (sent cs ss node object n) =
-      one_of_numbers p (sent cs ss node object) n 1 512 low (omega arith)
-      (λ k from to other. sent_outside cs ss node object k (apart object (tpdo_object k)
+      let parameters : filter p (parameter_writes sheet params node)
+      ≡ [] = no_parameters sheet params node object none (omega arith) (omega arith) in
+      let own : filter p tpdos ≡ filter p (sent cs sheet node object n) =
+      one_of_numbers p (sent cs sheet node object) n 1 512 low (omega arith)
+      (λ k from to other. sent_outside cs sheet node object k (apart object (tpdo_object k)
       (λ is. other (omega (arith, is))) (λ is. omega (arith, is)))
       (apart object (mapping_object (tpdo_object k)) (λ is. omega (arith, is)) (λ is. other (omega (arith, is))))) in
       let others : filter p rpdos ≡ [] =
-      none_of_numbers p (taken cs ss node object) 1 512
-      (λ k from to. taken_outside cs ss node object k (apart object (rpdo_object k) (λ is. omega (arith, is))
+      none_of_numbers p (taken cs sheet node object) 1 512
+      (λ k from to. taken_outside cs sheet node object k (apart object (rpdo_object k) (λ is. omega (arith, is))
       (λ is. omega (arith, is))) (apart object (mapping_object (rpdo_object k)) (λ is. omega (arith, is))
       (λ is. omega (arith, is)))) in
-      three p (parameter_writes ss params node) tpdos rpdos
+      three p (parameter_writes sheet params node) tpdos rpdos
       ∙ ap (λ (ws : List Write). ws ++ (filter p tpdos ++ filter p rpdos)) parameters
       ∙ ap (λ (ws : List Write). filter p tpdos ++ ws) others
-      ∙ append-nil (filter p tpdos) ∙ own ∙ ap (filter p) (sent_at cs ss node c alone)
-      ∙ tpdo_inside object ss node c refl
+      ∙ append-nil (filter p tpdos) ∙ own ∙ ap (filter p) (sent_at cs sheet node c alone)
+      ∙ tpdo_inside object sheet node c refl
 
   pub to_rpdo : (c : Clean) (k : Consumer) → IsTakenAlone (clean plan) node c k
-      → to_pdo (rpdo_object k.rpdo) (node_writes false plan params ss node) ≡ rpdo_writes c k
+      → to_pdo (rpdo_object k.rpdo) (node_writes false plan params sheet node) ≡ rpdo_writes c k
   unfolding to_pdo node_writes set_link_writes by_number
   to_rpdo c k alone =
       let n : ℕ = k.rpdo in
@@ -335,19 +335,19 @@ module _ (plan : List PlannedMessage) (params : Texts) (ss : List Section) (node
       let low : 1 ≤ n = numbered.0 in
       let high : n ≤ 512 = numbered.1 in
       let p : Write → Bool = is_to_pdo object in
-      let parameters : filter p (parameter_writes ss params node)
-      ≡ [] = no_parameters ss params node object none (omega arith) (omega arith) in
+      let parameters : filter p (parameter_writes sheet params node)
+      ≡ [] = no_parameters sheet params node object none (omega arith) (omega arith) in
       let others : filter p tpdos ≡ [] =
-      none_of_numbers p (sent cs ss node object) 1 512
-      (λ i from to. sent_outside cs ss node object i (apart object (tpdo_object i) (λ is. omega (arith, is))
+      none_of_numbers p (sent cs sheet node object) 1 512
+      (λ i from to. sent_outside cs sheet node object i (apart object (tpdo_object i) (λ is. omega (arith, is))
       (λ is. omega (arith, is))) (apart object (mapping_object (tpdo_object i)) (λ is. omega (arith, is))
       (λ is. omega (arith, is)))) in
-      let own : filter p rpdos ≡ filter p (taken cs ss node object n) =
-      one_of_numbers p (taken cs ss node object) n 1 512 low (omega arith)
-      (λ i from to other. taken_outside cs ss node object i (apart object (rpdo_object i)
+      let own : filter p rpdos ≡ filter p (taken cs sheet node object n) =
+      one_of_numbers p (taken cs sheet node object) n 1 512 low (omega arith)
+      (λ i from to other. taken_outside cs sheet node object i (apart object (rpdo_object i)
       (λ is. other (omega (arith, is))) (λ is. omega (arith, is)))
       (apart object (mapping_object (rpdo_object i)) (λ is. omega (arith, is)) (λ is. other (omega (arith, is))))) in
-      three p (parameter_writes ss params node) tpdos rpdos
+      three p (parameter_writes sheet params node) tpdos rpdos
       ∙ ap (λ (ws : List Write). ws ++ (filter p tpdos ++ filter p rpdos)) parameters
       ∙ ap (λ (ws : List Write). ws ++ filter p rpdos) others
       ∙ own ∙ ap (filter p) (taken_at cs node c k alone) ∙ rpdo_inside object c k refl
@@ -357,26 +357,26 @@ module _ (plan : List PlannedMessage) (params : Texts) (ss : List Section) (node
 pub pdo_index : (index : ℕ) → 0x1400 ≤ index → index ≤ 0x1BFF → is_of_pdos index ≡ true
 pdo_index index from to = grind (arith, nat_tests)
 
-pub links_pdo : (plan : List PlannedMessage) (ss : List Section) (node : ℕ)
+pub links_pdo : (plan : List PlannedMessage) (sheet : Sheet) (node : ℕ)
     → ((c : Clean) → Contains (clean plan) c → IsWithin c)
-    → (w : Write) → Contains (link_writes false plan ss node) w → is_of_pdos w.index ≡ true
+    → (w : Write) → Contains (link_writes false plan sheet node) w → is_of_pdos w.index ≡ true
 unfolding set_link_writes
-links_pdo plan ss node within w has =
-    ⊎_elim sent taken (of_either (by_number (tpdo_writes ss node) (filter_map (tpdo_of node) (clean plan)))
+links_pdo plan sheet node within w has =
+    ⊎_elim sent taken (of_either (by_number (tpdo_writes sheet node) (filter_map (tpdo_of node) (clean plan)))
     (by_number (λ (t : Clean × Consumer). rpdo_writes t.0 t.1) (filter_map (rpdo_of node) (clean plan))) w has)
   where
-    sent : Contains (by_number (tpdo_writes ss node) (filter_map (tpdo_of node) (clean plan))) w
+    sent : Contains (by_number (tpdo_writes sheet node) (filter_map (tpdo_of node) (clean plan))) w
         → is_of_pdos w.index ≡ true
     sent there =
-        let of : IsOfSent (clean plan) ss node w = of_tpdos (clean plan) ss node w there in
+        let of : IsOfSent (clean plan) sheet node w = of_tpdos (clean plan) sheet node w there in
         let numbered : (1 ≤ of.0.message.tpdo) × (of.0.message.tpdo ≤ 512) =
         between 1 512 of.0.message.tpdo (within of.0 of.1).sent.0 in
         let low : 1 ≤ of.0.message.tpdo = numbered.0 in
         let high : of.0.message.tpdo ≤ 512 = numbered.1 in
         let object : ℕ = tpdo_object of.0.message.tpdo in
-        All-contains (λ w. is_of_pdos w.index ≡ true) (tpdo_writes ss node of.0) w
+        All-contains (λ w. is_of_pdos w.index ≡ true) (tpdo_writes sheet node of.0) w
         (tpdo_all (λ w. is_of_pdos w.index ≡ true) object (λ sub bytes. pdo_index object (omega arith) (omega arith))
-        (λ sub bytes. pdo_index (mapping_object object) (omega arith) (omega arith)) ss node of.0 refl) of.3
+        (λ sub bytes. pdo_index (mapping_object object) (omega arith) (omega arith)) sheet node of.0 refl) of.3
 
     taken : Contains (by_number (λ (t : Clean × Consumer). rpdo_writes t.0 t.1)
         (filter_map (rpdo_of node) (clean plan))) w → is_of_pdos w.index ≡ true

@@ -4,7 +4,6 @@ use Rattle.std.proofs.Common.{Some, None, refl, sym, ap, subst, arith}
 use Rattle.std.specs.FinMap.{get}
 use Rattle.std.specs.Option.{option_map_or}
 use Rattle.std.proofs.lemmas.List.Elements.{All-contains, All-contains_itself, All-weaker}
-use Rattle.ini_text.specs.Content.{Section}
 use Rattle.ini_text.specs.Printable.{IsValue}
 use Rattle.std.specs.List.{AllByRecursion}
 use Rattle.eds_device.specs.Described.{kind_at}
@@ -13,13 +12,14 @@ use Rattle.co_values.specs.declared.data_type.DataType.{DataType}
 use Rattle.co_values.specs.declared.data_type.DataType.TheVariants.{VisibleString}
 use Rattle.co_values.specs.declared.form.Form.TheVariants.{Unsigned, Characters}
 use Rattle.co_values.specs.declared.form.Width.{Width}
-use Rattle.co_values.specs.declared.form.Width.TheVariants.{Bits8, Bits16, Bits32, Bits64}
+use Rattle.co_values.specs.declared.form.Width.TheVariants.{Bits8, Bits16, Bits24, Bits32, Bits40, Bits48, Bits56, Bits64}
 use Rattle.co_values.specs.Types.{form, is_modelled, is_modelled_form, octets}
 use Rattle.co_values.specs.Values.{longest_value, text_of_value, value}
 use Rattle.co_values.proofs.Printed.{value-printed}
 use Rattle.co_dict.specs.declared.entry.Entry.{Entry}
 use Rattle.co_dict.specs.Accesses.{is_writable}
 use Rattle.eds_device.specs.Entries.{entry_at}
+use Rattle.eds_device.specs.Sheets.{Sheet}
 use Rattle.node_parameters.specs.Params.{Texts}
 use Rattle.node_parameters.specs.Judgement.{Suits}
 use Rattle.node_parameters.specs.Parameters.{parameter_writes}
@@ -51,9 +51,9 @@ abbrev pub IsLine : List ℕ → Type 0
 IsLine bytes = IsValue bytes × IsGood bytes
 
 -- bytes are a value of an entry that may be written, are read again as they are printed, and can stand in a line
-pub record IsGiven (ss : List Section) (node : ℕ) (place : ℕ × ℕ) (bytes : List ℕ) : Type 0 where
+pub record IsGiven (sheet : Sheet) (node : ℕ) (place : ℕ × ℕ) (bytes : List ℕ) : Type 0 where
   pub entry : Entry
-  pub there : entry_at ss node place.0 place.1 ≡ Some entry
+  pub there : entry_at sheet node place.0 place.1 ≡ Some entry
   pub modelled : is_modelled entry.kind ≡ true
   pub writable : is_writable entry.access ≡ true
   pub again : value entry.kind (text_of_value entry.kind bytes) node ≡ Some bytes
@@ -61,34 +61,34 @@ pub record IsGiven (ss : List Section) (node : ℕ) (place : ℕ × ℕ) (bytes 
   pub few : length bytes ≤ longest_value
   pub in_line : entry.kind ≡ VisibleString → IsLine bytes
 
-module _ (ss : List Section) (node : ℕ) where
+module _ (sheet : Sheet) (node : ℕ) where
   abbrev pub IsGivenBy : Write → Type 0
-  IsGivenBy w = IsGiven ss node (w.index, w.sub) w.bytes
+  IsGivenBy w = IsGiven sheet node (w.index, w.sub) w.bytes
 
-  pub stands : (w : Write) → IsGivenBy w → StandsInLine ss w
-  stands w given is = (given.in_line (sym (kind_of_entry ss node w.index w.sub given.entry given.there) ∙ is)).0
+  pub stands : (w : Write) → IsGivenBy w → StandsInLine sheet w
+  stands w given is = (given.in_line (sym (kind_of_entry sheet node w.index w.sub given.entry given.there) ∙ is)).0
 
-  pub printed : (w : Write) → IsGivenBy w → IsGood (text_of_value (kind_at ss (w.index, w.sub)) w.bytes)
+  pub printed : (w : Write) → IsGivenBy w → IsGood (text_of_value (kind_at sheet (w.index, w.sub)) w.bytes)
   printed w given =
-      printed_good (kind_at ss (w.index, w.sub)) w.bytes
-      (λ is. (given.in_line (sym (kind_of_entry ss node w.index w.sub given.entry given.there) ∙ is)).1)
+      printed_good (kind_at sheet (w.index, w.sub)) w.bytes
+      (λ is. (given.in_line (sym (kind_of_entry sheet node w.index w.sub given.entry given.there) ∙ is)).1)
 
   -- ---- parameters
 
-  module _ (params : Texts) (values : AllByRecursion (HasGood IsLine) ss)
+  module _ (params : Texts) (values : AllByRecursion (HasGood IsLine) sheet.sections)
       (lines : (place : ℕ × ℕ) → IfSome (get params place) IsLine) where
-    pub parameter_given : (w : Write) → Contains (parameter_writes ss params node) w → IsGivenBy w
+    pub parameter_given : (w : Write) → Contains (parameter_writes sheet params node) w → IsGivenBy w
     parameter_given w has =
-        let behind = nothing_else ss params node w has in
+        let behind = nothing_else sheet params node w has in
         let text : List ℕ = behind.0 in
-        let j = judged_entry (entry_at ss node w.index w.sub) text w.bytes node behind.2 in
+        let j = judged_entry (entry_at sheet node w.index w.sub) text w.bytes node behind.2 in
         let entry : Entry = j.0 in
         let s : Suits entry text w.bytes node = j.2 in
         let sized = All-contains (λ (w : Write). (1 ≤ length w.bytes) × (length w.bytes ≤ 512))
-        (parameter_writes ss params node) w (writes_sized ss params node) has in
+        (parameter_writes sheet params node) w (writes_sized sheet params node) has in
         let line : IsLine text =
         subst (λ (o : Option (List ℕ)). IfSome o IsLine) behind.1
-        (text_all IsLine ss params values lines (place_of w)) in
+        (text_all IsLine sheet params values lines (place_of w)) in
         record {
           entry = entry;
           there = j.1;
@@ -110,13 +110,21 @@ module _ (ss : List Section) (node : ℕ) where
   some_octets : (w : Width) → 0 < octets w
   some_octets Bits8 = omega arith
   some_octets Bits16 = omega arith
+  some_octets Bits24 = omega arith
   some_octets Bits32 = omega arith
+  some_octets Bits40 = omega arith
+  some_octets Bits48 = omega arith
+  some_octets Bits56 = omega arith
   some_octets Bits64 = omega arith
 
   few_octets : (w : Width) → octets w ≤ longest_value
   few_octets Bits8 = omega arith
   few_octets Bits16 = omega arith
+  few_octets Bits24 = omega arith
   few_octets Bits32 = omega arith
+  few_octets Bits40 = omega arith
+  few_octets Bits48 = omega arith
+  few_octets Bits56 = omega arith
   few_octets Bits64 = omega arith
 
   no_characters : (kind : DataType) (width : Width) → is_unsigned kind width ≡ true → form kind ≡ Characters → ⊥
@@ -124,10 +132,10 @@ module _ (ss : List Section) (node : ℕ) where
       let contrary : Unsigned width ≡ Characters = sym (unsigned_form kind width e) ∙ is in
       cc
 
-  pub taken_given : (w : Write) → IsTaken ss node w → IsGivenBy w
-  taken_given w taken = by (entry_at ss node w.index w.sub) refl taken.takes
+  pub taken_given : (w : Write) → IsTaken sheet node w → IsGivenBy w
+  taken_given w taken = by (entry_at sheet node w.index w.sub) refl taken.takes
     where
-      by : (o : Option Entry) → entry_at ss node w.index w.sub ≡ o
+      by : (o : Option Entry) → entry_at sheet node w.index w.sub ≡ o
           → option_map_or (takes_unsigned taken.width) o false ≡ true → IsGivenBy w
       by None is test = cc
       by (Some entry) is test =
@@ -148,19 +156,19 @@ module _ (ss : List Section) (node : ℕ) where
             in_line = λ string. absurd (no_characters entry.kind taken.width unsigned (ap form string));
           }
 
-  module _ (plan : List PlannedMessage) (made : IsMadeFor plan ss node) (within : All IsWithin (clean plan))
+  module _ (plan : List PlannedMessage) (made : IsMadeFor plan sheet node) (within : All IsWithin (clean plan))
       (writable : All IsWritable (clean plan)) where
     few_entries : (n : ℕ) → n ≤ 64 → n < 256
     few_entries n le = omega arith
 
-    sent_given : (w : Write) → IsOfSent (clean plan) ss node w → IsGivenBy w
+    sent_given : (w : Write) → IsOfSent (clean plan) sheet node w → IsGivenBy w
     sent_given w of =
         let c : Clean = of.0 in
         let limits = All-contains IsWithin (clean plan) c within of.1 in
         let numbers = All-contains IsWritable (clean plan) c writable of.1 in
         taken_given w
-        (All-contains (IsTaken ss node) (tpdo_writes ss node c) w
-        (tpdo_taken ss node c ((made c of.1).0 of.2) numbers.transmission numbers.start (few_entries (length c.mapping) limits.sent.1)
+        (All-contains (IsTaken sheet node) (tpdo_writes sheet node c) w
+        (tpdo_taken sheet node c ((made c of.1).0 of.2) numbers.transmission numbers.start (few_entries (length c.mapping) limits.sent.1)
         numbers.sent) of.3)
 
     took_given : (w : Write) → IsOfTaken (clean plan) node w → IsGivenBy w
@@ -174,24 +182,24 @@ module _ (ss : List Section) (node : ℕ) where
         All-contains (λ (k : Consumer). AreMapped k.mapping) c.consumers k
         (All-contains IsWritable (clean plan) c writable of.1).taken of.2.1 in
         taken_given w
-        (All-contains (IsTaken ss node) (rpdo_writes c k) w
-        (rpdo_taken ss node c k ((made c of.1).1 k of.2.1 of.2.2)
+        (All-contains (IsTaken sheet node) (rpdo_writes c k) w
+        (rpdo_taken sheet node c k ((made c of.1).1 k of.2.1 of.2.2)
         (few_entries (length k.mapping) limits.1) numbers) of.2.3)
 
-    link_given : (w : Write) → Contains (link_writes false plan ss node) w → IsGivenBy w
+    link_given : (w : Write) → Contains (link_writes false plan sheet node) w → IsGivenBy w
     unfolding set_link_writes
     link_given w has =
-        ⊎_elim (λ there. sent_given w (of_tpdos (clean plan) ss node w there))
+        ⊎_elim (λ there. sent_given w (of_tpdos (clean plan) sheet node w there))
         (λ there. took_given w (of_rpdos (clean plan) node w there))
-        (of_either (by_number (tpdo_writes ss node) (filter_map (tpdo_of node) (clean plan)))
+        (of_either (by_number (tpdo_writes sheet node) (filter_map (tpdo_of node) (clean plan)))
         (by_number (λ (t : Clean × Consumer). rpdo_writes t.0 t.1) (filter_map (rpdo_of node) (clean plan))) w has)
 
-    pub all_given : (params : Texts) → AllByRecursion (HasGood IsLine) ss
+    pub all_given : (params : Texts) → AllByRecursion (HasGood IsLine) sheet.sections
         → ((place : ℕ × ℕ) → IfSome (get params place) IsLine)
-        → All (λ w. IsGiven ss node (w.index, w.sub) w.bytes) (node_writes false plan params ss node)
+        → All (λ w. IsGiven sheet node (w.index, w.sub) w.bytes) (node_writes false plan params sheet node)
     unfolding node_writes
     all_given params values lines =
-        All-weaker (Contains (node_writes false plan params ss node)) IsGivenBy
+        All-weaker (Contains (node_writes false plan params sheet node)) IsGivenBy
         (λ w has. ⊎_elim (parameter_given params values lines w) (link_given w)
-        (of_either (parameter_writes ss params node) (link_writes false plan ss node) w has))
-        (node_writes false plan params ss node) (All-contains_itself (node_writes false plan params ss node))
+        (of_either (parameter_writes sheet params node) (link_writes false plan sheet node) w has))
+        (node_writes false plan params sheet node) (All-contains_itself (node_writes false plan params sheet node))

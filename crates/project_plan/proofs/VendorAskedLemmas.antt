@@ -12,7 +12,6 @@ use Rattle.co_values.specs.Types.{octets}
 use Rattle.cia301.specs.CobIds.{no_rtr_bit, off_bit}
 use Rattle.cia301.specs.PdoObjects.{mapping_object, tpdo_object}
 use Rattle.concise_dcf.specs.declared.write.Write.{Write}
-use Rattle.ini_text.specs.Content.{Section}
 use Rattle.project_edits.specs.Versions.{is_three}
 use Rattle.project_messages.specs.declared.linked.Linked.{Linked}
 use Rattle.project_messages.specs.declared.message.Message.{Message}
@@ -20,7 +19,7 @@ use Rattle.co_project.specs.Project.{Content}
 use Rattle.pdo_stations.specs.declared.as_made.AsMade.{AsMade}
 use Rattle.pdo_stations.specs.declared.mapped.Mapped.{Mapped}
 use Rattle.pdo_stations.specs.Carried.{carried_of}
-use Rattle.pdo_stations.specs.Devices.{Devices, as_made, devices_of, sections_at}
+use Rattle.pdo_stations.specs.Devices.{Devices, as_made, devices_of, sheet_at}
 use Rattle.vendor_pdos.specs.Choices.{sent_choices}
 use Rattle.vendor_pdos.specs.Mappings.{Wanted, writes_mapping}
 use Rattle.vendor_pdos.specs.Parameters.{can_be_set, has_parameter, is_open, number_serves, parameter_default}
@@ -36,25 +35,26 @@ use Rattle.pdo_plan.proofs.JudgedLemmas.{judged_clean}
 use Rattle.pdo_links.specs.PdoWrites.{cob_write, mapping_writes, write_at}
 use Rattle.pdo_links.specs.VendorWrites.{allows, configured, parameter_write, pdo_writes, vendor_tpdo_writes}
 use Rattle.pdo_links.proofs.Values.{first_of, second_of}
-use Rattle.project_plan.specs.Network.{member_at, plan_of_project, sections_of_members, writes_of, Member}
+use Rattle.project_plan.specs.Network.{member_at, plan_of_project, sheets_of_members, writes_of, Member}
 use Rattle.project_plan.specs.Nodes.{IsSoundNode, Sends}
 use Rattle.project_plan.specs.Pdos.{StandsByDefault, sent_writes}
 use Rattle.project_plan.proofs.AskedLemmas.{event_written, inhibit_written, start_written}
 use Rattle.project_plan.proofs.MappedLemmas.{IsWritable, all_writable}
 use Rattle.project_plan.proofs.NetworkLemmas.{described_at}
 use Rattle.project_plan.proofs.WritesLemmas.{sent_is_there}
+use Rattle.eds_device.specs.Sheets.{Sheet}
 
 -- ---- the TPDO of a clean message serves it
 
--- that of the device of a node with these sections
-abbrev ServedBy : Clean → ℕ → Wanted → Option (List Section) → Type 0
+-- that of the device of a node with this data sheet
+abbrev ServedBy : Clean → ℕ → Wanted → Option Sheet → Type 0
 ServedBy c node wanted o =
-    option_map_or (λ (d : AsMade). serves d c.message c.start wanted) (option_map (λ ss. as_made ss node) o) false ≡ true
+    option_map_or (λ (d : AsMade). serves d c.message c.start wanted) (option_map (λ sheet. as_made sheet node) o) false ≡ true
 
-abbrev Served : List (ℕ × List Section) → Clean → Type 0
-Served nodes c = (wanted : Wanted) × ServedBy c c.message.node wanted (sections_at nodes c.message.node)
+abbrev Served : List (ℕ × Sheet) → Clean → Type 0
+Served nodes c = (wanted : Wanted) × ServedBy c c.message.node wanted (sheet_at nodes c.message.node)
 
-clean_served : (nodes : List (ℕ × List Section)) (withheld : Withheld) (before : List Clean) (m : Linked) (c : Clean)
+clean_served : (nodes : List (ℕ × Sheet)) (withheld : Withheld) (before : List Clean) (m : Linked) (c : Clean)
     → judged_message (had_by withheld before) (devices_of true nodes) m ≡ Planned c → Served nodes c
 clean_served nodes withheld before m c e =
     let d : Devices = devices_of true nodes in
@@ -63,16 +63,16 @@ clean_served nodes withheld before m c e =
     let wanted : Wanted = sent_choices (carried_of d m.message.node m.sources) in (
       wanted,
       subst (λ (x : Message). option_map_or (λ (d : AsMade). serves d x c.start wanted)
-          (option_map (λ ss. as_made ss x.node) (sections_at nodes x.node)) false ≡ true) is.message
+          (option_map (λ sheet. as_made sheet x.node) (sheet_at nodes x.node)) false ≡ true) is.message
           (subst (λ (n : ℕ). option_map_or (λ (d : AsMade). serves d m.message n wanted)
-          (option_map (λ ss. as_made ss m.message.node) (sections_at nodes m.message.node)) false ≡ true) is.start objects),
+          (option_map (λ sheet. as_made sheet m.message.node) (sheet_at nodes m.message.node)) false ≡ true) is.start objects),
     )
 
 all_served : (p : Content) (c : Clean) → is_three p.version ≡ true → Contains (clean (plan_of_project p)) c
-    → Served (sections_of_members p) c
+    → Served (sheets_of_members p) c
 unfolding plan_of_project
 all_served p c three has =
-    let nodes : List (ℕ × List Section) = sections_of_members p in
+    let nodes : List (ℕ × Sheet) = sheets_of_members p in
     let d : Devices = devices_of true nodes in
     let planned : List Clean = clean (plan_of d (entries p.messages)) in
     All-contains (Served nodes) planned c
@@ -171,13 +171,13 @@ module _ (device : AsMade) (c : Clean) where
 module _ (p : Content) (id : ℕ) (m : Member) (c : Clean) (node : IsSoundNode p id m) (sends : Sends p id c)
     (three : is_three p.version ≡ true) where
   abbrev made : AsMade
-  made = as_made m.sections id
+  made = as_made m.sheet id
 
   own_serves : (wanted : Wanted) × (serves made c.message c.start wanted ≡ true)
   own_serves =
-      let served : Served (sections_of_members p) c = all_served p c three sends.planned in
-      let here : ServedBy c id served.0 (sections_at (sections_of_members p) id) =
-      subst (λ (n : ℕ). ServedBy c n served.0 (sections_at (sections_of_members p) n)) sends.sender served.1 in
+      let served : Served (sheets_of_members p) c = all_served p c three sends.planned in
+      let here : ServedBy c id served.0 (sheet_at (sheets_of_members p) id) =
+      subst (λ (n : ℕ). ServedBy c n served.0 (sheet_at (sheets_of_members p) n)) sends.sender served.1 in
       (served.0, subst (ServedBy c id served.0) (described_at p id m node.there) here)
 
   record Serves : Type 0 where

@@ -15,7 +15,6 @@ use Rattle.cia301.specs.PdoObjects.{is_of_pdos, mapping_object, rpdo_object, tpd
 use Rattle.cia301.specs.CobIds.{is_valid, no_rtr_bit, off_bit}
 use Rattle.co_values.specs.Types.{octets}
 use Rattle.concise_dcf.specs.declared.write.Write.{Write}
-use Rattle.ini_text.specs.Content.{Section}
 use Rattle.node_parameters.specs.Params.{Texts}
 use Rattle.node_parameters.specs.Parameters.{parameter_writes}
 use Rattle.pdo_stations.specs.declared.as_made.AsMade.{AsMade}
@@ -39,6 +38,7 @@ use Rattle.project_plan.specs.Pdos.{is_to_pdo, to_pdo}
 use Rattle.project_plan.proofs.PdoLemmas.{IsApart, all_pass, apart, its_mapping, itself, mapping_all, no_parameters}
 use Rattle.project_plan.proofs.PdoLemmas.{pdo_index}
 use Rattle.project_plan.proofs.PdoLemmas.{none_of_numbers, none_pass, one_of_numbers, three}
+use Rattle.eds_device.specs.Sheets.{Sheet}
 
 -- ---- the objects of a PDO's writes
 
@@ -197,13 +197,13 @@ taken_inside device c k =
 
 -- ---- all writes of a node
 
-module _ (plan : List PlannedMessage) (params : Texts) (ss : List Section) (node : ℕ)
+module _ (plan : List PlannedMessage) (params : Texts) (sheet : Sheet) (node : ℕ)
     (none : (place : ℕ × ℕ) → is_of_pdos place.0 ≡ true → get params place ≡ None) where
   abbrev cs : List Clean
   cs = clean plan
 
   abbrev device : AsMade
-  device = as_made ss node
+  device = as_made sheet node
 
   abbrev tpdos : List Write
   tpdos = each_by_number (vendor_tpdo_writes device) (λ number. unused_writes device (tpdo_object number))
@@ -214,7 +214,7 @@ module _ (plan : List PlannedMessage) (params : Texts) (ss : List Section) (node
       (λ number. unused_writes device (rpdo_object number)) (filter_map (rpdo_of node) cs)
 
   pub to_vendor_tpdo : (c : Clean) → IsSentAlone (clean plan) node c
-      → to_pdo (tpdo_object c.message.tpdo) (node_writes true plan params ss node) ≡ vendor_tpdo_writes (as_made ss node) c
+      → to_pdo (tpdo_object c.message.tpdo) (node_writes true plan params sheet node) ≡ vendor_tpdo_writes (as_made sheet node) c
   unfolding to_pdo node_writes vendor_link_writes each_by_number
   to_vendor_tpdo c alone =
       let n : ℕ = c.message.tpdo in
@@ -223,8 +223,8 @@ module _ (plan : List PlannedMessage) (params : Texts) (ss : List Section) (node
       let low : 1 ≤ n = numbered.0 in
       let high : n ≤ 512 = numbered.1 in
       let p : Write → Bool = is_to_pdo object in
-      let parameters : filter p (parameter_writes ss params node)
-      ≡ [] = no_parameters ss params node object none (omega arith) (omega arith) in
+      let parameters : filter p (parameter_writes sheet params node)
+      ≡ [] = no_parameters sheet params node object none (omega arith) (omega arith) in
       let own : filter p tpdos ≡ filter p (sent cs device node object n) =
       one_of_numbers p (sent cs device node object) n 1 512 low (omega arith)
       (λ k from to other. sent_outside cs device node object k (apart object (tpdo_object k)
@@ -238,13 +238,13 @@ module _ (plan : List PlannedMessage) (params : Texts) (ss : List Section) (node
       let here : sent cs device node object n ≡ vendor_tpdo_writes device c =
       ap (λ (o : Option Clean). option_map_or (vendor_tpdo_writes device) o (unused_writes device object))
       (sent_found cs node c alone) in
-      three p (parameter_writes ss params node) tpdos rpdos
+      three p (parameter_writes sheet params node) tpdos rpdos
       ∙ ap (λ (ws : List Write). ws ++ (filter p tpdos ++ filter p rpdos)) parameters
       ∙ ap (λ (ws : List Write). filter p tpdos ++ ws) others
       ∙ append-nil (filter p tpdos) ∙ own ∙ ap (filter p) here ∙ sent_inside device c
 
   pub to_vendor_rpdo : (c : Clean) (k : Consumer) → IsTakenAlone (clean plan) node c k
-      → to_pdo (rpdo_object k.rpdo) (node_writes true plan params ss node) ≡ vendor_rpdo_writes (as_made ss node) c k
+      → to_pdo (rpdo_object k.rpdo) (node_writes true plan params sheet node) ≡ vendor_rpdo_writes (as_made sheet node) c k
   unfolding to_pdo node_writes vendor_link_writes each_by_number
   to_vendor_rpdo c k alone =
       let n : ℕ = k.rpdo in
@@ -253,8 +253,8 @@ module _ (plan : List PlannedMessage) (params : Texts) (ss : List Section) (node
       let low : 1 ≤ n = numbered.0 in
       let high : n ≤ 512 = numbered.1 in
       let p : Write → Bool = is_to_pdo object in
-      let parameters : filter p (parameter_writes ss params node)
-      ≡ [] = no_parameters ss params node object none (omega arith) (omega arith) in
+      let parameters : filter p (parameter_writes sheet params node)
+      ≡ [] = no_parameters sheet params node object none (omega arith) (omega arith) in
       let others : filter p tpdos ≡ [] =
       none_of_numbers p (sent cs device node object) 1 512
       (λ i from to. sent_outside cs device node object i (apart object (tpdo_object i) (λ is. omega (arith, is))
@@ -268,7 +268,7 @@ module _ (plan : List PlannedMessage) (params : Texts) (ss : List Section) (node
       let here : taken cs device node object n ≡ vendor_rpdo_writes device c k =
       ap (λ (o : Option (Clean × Consumer)). option_map_or (λ (t : Clean × Consumer). vendor_rpdo_writes device t.0 t.1)
       o (unused_writes device object)) (taken_found cs node c k alone) in
-      three p (parameter_writes ss params node) tpdos rpdos
+      three p (parameter_writes sheet params node) tpdos rpdos
       ∙ ap (λ (ws : List Write). ws ++ (filter p tpdos ++ filter p rpdos)) parameters
       ∙ ap (λ (ws : List Write). ws ++ filter p rpdos) others
       ∙ own ∙ ap (filter p) here ∙ taken_inside device c k

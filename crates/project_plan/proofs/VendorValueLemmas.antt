@@ -10,7 +10,6 @@ use Rattle.std.specs.Ordering.{nat_cmp}
 use Rattle.std.proofs.lemmas.List.Elements.{All-append, All-contains, All-contains_itself, All-weaker}
 use Rattle.cia301.specs.PdoObjects.{rpdo_object, tpdo_object}
 use Rattle.concise_dcf.specs.declared.write.Write.{Write}
-use Rattle.ini_text.specs.Content.{Section}
 use Rattle.node_parameters.specs.Params.{Texts}
 use Rattle.node_parameters.specs.Parameters.{parameter_writes}
 use Rattle.eds_dcf.proofs.CarriedTextLemmas.{HasGood}
@@ -32,35 +31,36 @@ use Rattle.pdo_links.proofs.VendorValues.{rpdo_writes_taken, tpdo_writes_taken, 
 use Rattle.project_plan.proofs.MappedLemmas.{IsWritable}
 use Rattle.project_plan.proofs.ValueLemmas.{IsGiven, IsGivenBy, IsLine, parameter_given, taken_given}
 use Rattle.project_plan.proofs.VendorPdoLemmas.{in_range, sent, taken}
+use Rattle.eds_device.specs.Sheets.{Sheet}
 
-module _ (plan : List PlannedMessage) (ss : List Section) (node : ℕ) (within : All IsWithin (clean plan))
+module _ (plan : List PlannedMessage) (sheet : Sheet) (node : ℕ) (within : All IsWithin (clean plan))
     (writable : All IsWritable (clean plan)) where
   abbrev device : AsMade
-  device = as_made ss node
+  device = as_made sheet node
 
   few_entries : (n : ℕ) → n ≤ 64 → n < 256
   few_entries n le = omega arith
 
-  sent_taken : (number : ℕ) → 1 ≤ number → number ≤ 512 → All (IsTaken ss node) (sent (clean plan) device node 0 number)
+  sent_taken : (number : ℕ) → 1 ≤ number → number ≤ 512 → All (IsTaken sheet node) (sent (clean plan) device node 0 number)
   sent_taken number low high = by (lookup (is_at (nat_cmp number)) (filter_map (tpdo_of node) (clean plan))) refl
     where
       by : (o : Option Clean) → lookup (is_at (nat_cmp number)) (filter_map (tpdo_of node) (clean plan)) ≡ o
-          → All (IsTaken ss node) (option_map_or (vendor_tpdo_writes device) o (unused_writes device (tpdo_object number)))
-      by None e = unused_taken ss node device refl (tpdo_object number)
+          → All (IsTaken sheet node) (option_map_or (vendor_tpdo_writes device) o (unused_writes device (tpdo_object number)))
+      by None e = unused_taken sheet node device refl (tpdo_object number)
       by (Some c) e =
           let s : Sends (clean plan) node number c = sends (clean plan) node number c e in
           let limits = All-contains IsWithin (clean plan) c within s.message in
           let numbers = All-contains IsWritable (clean plan) c writable s.message in
-          tpdo_writes_taken ss node device refl c (few_entries (length c.mapping) limits.sent.1) (λ is. numbers.sent)
+          tpdo_writes_taken sheet node device refl c (few_entries (length c.mapping) limits.sent.1) (λ is. numbers.sent)
 
   taken_taken : (number : ℕ) → 1 ≤ number → number ≤ 512
-      → All (IsTaken ss node) (taken (clean plan) device node 0 number)
+      → All (IsTaken sheet node) (taken (clean plan) device node 0 number)
   taken_taken number low high = by (lookup (is_at (nat_cmp number)) (filter_map (rpdo_of node) (clean plan))) refl
     where
       by : (o : Option (Clean × Consumer)) → lookup (is_at (nat_cmp number)) (filter_map (rpdo_of node) (clean plan)) ≡ o
-          → All (IsTaken ss node) (option_map_or (λ (t : Clean × Consumer). vendor_rpdo_writes device t.0 t.1) o
+          → All (IsTaken sheet node) (option_map_or (λ (t : Clean × Consumer). vendor_rpdo_writes device t.0 t.1) o
           (unused_writes device (rpdo_object number)))
-      by None e = unused_taken ss node device refl (rpdo_object number)
+      by None e = unused_taken sheet node device refl (rpdo_object number)
       by (Some t) e =
           let s : Takes (clean plan) node number t = takes (clean plan) node number t e in
           let limits : IsNumbered t.1.rpdo t.1.mapping =
@@ -68,24 +68,24 @@ module _ (plan : List PlannedMessage) (ss : List Section) (node : ℕ) (within :
           (All-contains IsWithin (clean plan) t.0 within s.message).taken s.consumer in
           let numbers : AreMapped t.1.mapping = All-contains (λ (k : Consumer). AreMapped k.mapping) t.0.consumers t.1
           (All-contains IsWritable (clean plan) t.0 writable s.message).taken s.consumer in
-          rpdo_writes_taken ss node device refl t.0 t.1 (few_entries (length t.1.mapping) limits.1) (λ is. numbers)
+          rpdo_writes_taken sheet node device refl t.0 t.1 (few_entries (length t.1.mapping) limits.1) (λ is. numbers)
 
-  links_taken : All (IsTaken ss node) (vendor_link_writes plan device node)
+  links_taken : All (IsTaken sheet node) (vendor_link_writes plan device node)
   unfolding vendor_link_writes each_by_number
   links_taken =
-      All-append (IsTaken ss node) (flat_map (sent (clean plan) device node 0) (range_with_len 1 512))
+      All-append (IsTaken sheet node) (flat_map (sent (clean plan) device node 0) (range_with_len 1 512))
       (flat_map (taken (clean plan) device node 0) (range_with_len 1 512))
-      (in_range (IsTaken ss node) (sent (clean plan) device node 0) 1 512 (omega arith) (omega arith) sent_taken)
-      (in_range (IsTaken ss node) (taken (clean plan) device node 0) 1 512 (omega arith) (omega arith) taken_taken)
+      (in_range (IsTaken sheet node) (sent (clean plan) device node 0) 1 512 (omega arith) (omega arith) sent_taken)
+      (in_range (IsTaken sheet node) (taken (clean plan) device node 0) 1 512 (omega arith) (omega arith) taken_taken)
 
-  pub vendor_all_given : (params : Texts) → AllByRecursion (HasGood IsLine) ss
+  pub vendor_all_given : (params : Texts) → AllByRecursion (HasGood IsLine) sheet.sections
       → ((place : ℕ × ℕ) → IfSome (get params place) IsLine)
-      → All (λ w. IsGiven ss node (w.index, w.sub) w.bytes) (node_writes true plan params ss node)
+      → All (λ w. IsGiven sheet node (w.index, w.sub) w.bytes) (node_writes true plan params sheet node)
   unfolding node_writes
   vendor_all_given params values lines =
-      All-append (IsGivenBy ss node) (parameter_writes ss params node) (vendor_link_writes plan device node)
-      (All-weaker (Contains (parameter_writes ss params node)) (IsGivenBy ss node)
-      (parameter_given ss node params values lines) (parameter_writes ss params node)
-      (All-contains_itself (parameter_writes ss params node)))
-      (All-weaker (IsTaken ss node) (IsGivenBy ss node) (taken_given ss node) (vendor_link_writes plan device node)
+      All-append (IsGivenBy sheet node) (parameter_writes sheet params node) (vendor_link_writes plan device node)
+      (All-weaker (Contains (parameter_writes sheet params node)) (IsGivenBy sheet node)
+      (parameter_given sheet node params values lines) (parameter_writes sheet params node)
+      (All-contains_itself (parameter_writes sheet params node)))
+      (All-weaker (IsTaken sheet node) (IsGivenBy sheet node) (taken_given sheet node) (vendor_link_writes plan device node)
       links_taken)

@@ -7,7 +7,6 @@ use Rattle.std.specs.Ordering.{eq_by_cmp}
 use Rattle.std.proofs.lemmas.List.Elements.{All-cons, All-head, All-nil, All-tail, All-weaker}
 use Rattle.byteorder.specs.Endian.{little_number}
 use Rattle.base.specs.Ranges.{is_between}
-use Rattle.ini_text.specs.Content.{Section}
 use Rattle.co_values.specs.declared.form.Width.{Width}
 use Rattle.co_values.specs.Types.{octets}
 use Rattle.concise_dcf.specs.declared.write.Write.{Write}
@@ -19,6 +18,7 @@ use Rattle.node_parameters.specs.Params.{Texts}
 use Rattle.node_parameters.specs.Parameters.{parameter_writes}
 use Rattle.eds_device.specs.Described.{kind_at}
 use Rattle.eds_device.specs.Entries.{defaults_of}
+use Rattle.eds_device.specs.Sheets.{Sheet}
 use Rattle.eds_places.proofs.PlaceLemmas.{alike}
 use Rattle.pdo_stations.specs.Devices.{as_made, is_unsigned}
 use Rattle.cia301.specs.PdoObjects.{is_communication_object, is_of_pdos, is_of_tpdos}
@@ -83,32 +83,32 @@ not_low index other pdo low is =
     let high : 0x1400 ≤ index = grind arith in
     absurd (omega (arith, is))
 
-module _ (plan : List PlannedMessage) (params : Texts) (ss : List Section) (node : ℕ) where
+module _ (plan : List PlannedMessage) (params : Texts) (sheet : Sheet) (node : ℕ) where
   abbrev links : List Write
-  links = vendor_link_writes plan (as_made ss node) node
+  links = vendor_link_writes plan (as_made sheet node) node
 
   abbrev whole : Values
-  whole = after_writes (defaults_of ss node) (node_writes true plan params ss node)
+  whole = after_writes (defaults_of sheet node) (node_writes true plan params sheet node)
 
   abbrev wanted : Values
-  wanted = with_vendor_tpdos (values_given ss params node) plan (as_made ss node) node
+  wanted = with_vendor_tpdos (values_given sheet params node) plan (as_made sheet node) node
 
-  in_turn : whole ≡ after_writes (set_up params ss node) links
+  in_turn : whole ≡ after_writes (set_up params sheet node) links
   unfolding node_writes
-  in_turn = written-append (defaults_of ss node) (parameter_writes ss params node) links
+  in_turn = written-append (defaults_of sheet node) (parameter_writes sheet params node) links
 
   below : (q : ℕ × ℕ) → is_wanted q ≡ true → q.0 < 0x1100 → get wanted q ≡ get whole q
   below q is low =
       let apart : IsApart q.0 links = All-weaker (λ (w : Write). is_of_pdos w.index ≡ true)
       (λ (w : Write). w.index ≡ q.0 → ⊥) (λ w pdo. not_low w.index q.0 pdo low) links
-      (vendor_links_pdo plan (as_made ss node) node) in
-      left_alone (values_given ss params node) q (filter sets_cob_id links) (kept_apart q.0 links apart)
-      ∙ given_is params ss node q is
-      ∙ sym (ap (λ (m : Values). get m q) in_turn ∙ left_alone (set_up params ss node) q links apart)
+      (vendor_links_pdo plan (as_made sheet node) node) in
+      left_alone (values_given sheet params node) q (filter sets_cob_id links) (kept_apart q.0 links apart)
+      ∙ given_is params sheet node q is
+      ∙ sym (ap (λ (m : Values). get m q) in_turn ∙ left_alone (set_up params sheet node) q links apart)
 
   of_cob_id : (q : ℕ × ℕ) → is_wanted q ≡ true → is_tpdo_cob_id q ≡ true → get wanted q ≡ get whole q
   of_cob_id q is cob =
-      same_cob_id q cob links (values_given ss params node) (set_up params ss node) (given_is params ss node q is)
+      same_cob_id q cob links (values_given sheet params node) (set_up params sheet node) (given_is params sheet node q is)
       ∙ sym (ap (λ (m : Values). get m q) in_turn)
 
   low_other : (q : ℕ × ℕ) (b : Bool) → b ≡ false → b || (is_between 0x1016 0x1017 q.0 || q.0 == 0x1019) ≡ true
@@ -124,15 +124,15 @@ module _ (plan : List PlannedMessage) (params : Texts) (ss : List Section) (node
       by false e = below q is (low_other q (is_tpdo_cob_id q) e is)
 
   vendor_number_wanted : (width : Width) (place : ℕ × ℕ) → is_wanted place ≡ true
-      → number_among ss wanted width place ≡ number_among ss whole width place
+      → number_among sheet wanted width place ≡ number_among sheet whole width place
   vendor_number_wanted width place is =
-      ap (λ (o : Option (List ℕ)). if is_unsigned (kind_at ss place) width
+      ap (λ (o : Option (List ℕ)). if is_unsigned (kind_at sheet place) width
       then option_map (little_number (octets width)) o else None) (wanted_is place is)
 
   -- a number is among what is wanted as it is among all, by the rules of version 3 or not
   pub number_wanted_by : (b : Bool) (width : Width) (place : ℕ × ℕ) → is_wanted place ≡ true
-      → number_among ss (if b then with_vendor_tpdos (values_given ss params node) plan (as_made ss node) node
-      else with_tpdos (values_given ss params node) node plan) width place
-      ≡ number_among ss (after_writes (defaults_of ss node) (node_writes b plan params ss node)) width place
+      → number_among sheet (if b then with_vendor_tpdos (values_given sheet params node) plan (as_made sheet node) node
+      else with_tpdos (values_given sheet params node) node plan) width place
+      ≡ number_among sheet (after_writes (defaults_of sheet node) (node_writes b plan params sheet node)) width place
   number_wanted_by true width place is = vendor_number_wanted width place is
-  number_wanted_by false width place is = number_wanted plan params ss node width place is
+  number_wanted_by false width place is = number_wanted plan params sheet node width place is

@@ -16,7 +16,6 @@ use Rattle.std.proofs.lemmas.Map.Views.{tells_apart}
 use Rattle.byteorder.specs.Endian.{little_bytes, little_number}
 use Rattle.base.specs.Ranges.{is_between}
 use Rattle.cia301.specs.CobIds.{no_rtr_bit, off_bit}
-use Rattle.ini_text.specs.Content.{Section}
 use Rattle.co_values.specs.declared.form.Width.{Width}
 use Rattle.co_values.specs.Types.{octets}
 use Rattle.concise_dcf.specs.declared.write.Write.{Write}
@@ -30,6 +29,7 @@ use Rattle.eds_device.specs.Described.{kind_at}
 use Rattle.eds_device.specs.Entries.{default_at, defaults_of}
 use Rattle.eds_device.specs.Places.{pairs_of}
 use Rattle.eds_device.proofs.MapLemmas.{get_given}
+use Rattle.eds_device.specs.Sheets.{Sheet}
 use Rattle.eds_places.proofs.PlaceLemmas.{alike, has_place}
 use Rattle.pdo_stations.specs.declared.mapped.Mapped.{Mapped}
 use Rattle.pdo_stations.specs.Devices.{is_unsigned}
@@ -100,16 +100,16 @@ module _ (index object : ℕ) (apart : object ≡ index → ⊥) where
       (All-append Other (mapped_writes object 1 mapping) (write_at object 0 (length mapping ∷ []) ∷ [])
       (entries_apart 1 mapping) (one_apart 0 (length mapping ∷ [])))
 
-tpdo_apart : (index : ℕ) (ss : List Section) (node : ℕ) (c : Clean) → (tpdo_object c.message.tpdo ≡ index → ⊥)
-    → (mapping_object (tpdo_object c.message.tpdo) ≡ index → ⊥) → IsApart index (tpdo_writes ss node c)
+tpdo_apart : (index : ℕ) (sheet : Sheet) (node : ℕ) (c : Clean) → (tpdo_object c.message.tpdo ≡ index → ⊥)
+    → (mapping_object (tpdo_object c.message.tpdo) ≡ index → ⊥) → IsApart index (tpdo_writes sheet node c)
 unfolding tpdo_writes
-tpdo_apart index ss node c apart mapping =
+tpdo_apart index sheet node c apart mapping =
     All-cons P (cob_write object (off_bit + (no_rtr_bit + c.identifier))) (write_at object 2 (c.message.transmission ∷ []) ∷ (four ++ on)) apart
     (All-cons P (write_at object 2 (c.message.transmission ∷ [])) (four ++ on) apart
     (All-append P four on
     (All-append P three maps
-    (All-append P two (start_write ss node object c.start)
-    (All-append P (time_write ss node object 3 c.message.inhibit) (time_write ss node object 5 c.message.event)
+    (All-append P two (start_write sheet node object c.start)
+    (All-append P (time_write sheet node object 3 c.message.inhibit) (time_write sheet node object 5 c.message.event)
     (if_apart index object apart _ 3 (little_bytes 2 c.message.inhibit))
     (if_apart index object apart _ 5 (little_bytes 2 c.message.event)))
     (if_apart index object apart _ 6 (c.start ∷ [])))
@@ -123,10 +123,10 @@ tpdo_apart index ss node c apart mapping =
     P w = w.index ≡ index → ⊥
 
     two : List Write
-    two = time_write ss node object 3 c.message.inhibit ++ time_write ss node object 5 c.message.event
+    two = time_write sheet node object 3 c.message.inhibit ++ time_write sheet node object 5 c.message.event
 
     three : List Write
-    three = two ++ start_write ss node object c.start
+    three = two ++ start_write sheet node object c.start
 
     maps : List Write
     maps = mapping_writes (mapping_object object) c.mapping
@@ -172,15 +172,15 @@ on_last values off type on between =
     ∙ ap (λ (b : Bool). cond b (Some on.bytes) (get (after_writes begun between) (place_of on))) (itself (place_of on))
 
 -- as the COB-ID of a TPDO does
-switched_on : (values : Values) (ss : List Section) (node : ℕ) (c : Clean)
-    → get (after_writes values (tpdo_writes ss node c)) (tpdo_object c.message.tpdo, 1) ≡ Some (cob_id_of c)
+switched_on : (values : Values) (sheet : Sheet) (node : ℕ) (c : Clean)
+    → get (after_writes values (tpdo_writes sheet node c)) (tpdo_object c.message.tpdo, 1) ≡ Some (cob_id_of c)
 unfolding tpdo_writes
-switched_on values ss node c =
+switched_on values sheet node c =
     let object : ℕ = tpdo_object c.message.tpdo in
     on_last values (cob_write object (off_bit + (no_rtr_bit + c.identifier)))
     (write_at object 2 (c.message.transmission ∷ [])) (write_at object 1 (cob_id_of c))
-    (time_write ss node object 3 c.message.inhibit ++ time_write ss node object 5 c.message.event
-    ++ start_write ss node object c.start ++ mapping_writes (mapping_object object) c.mapping)
+    (time_write sheet node object 3 c.message.inhibit ++ time_write sheet node object 5 c.message.event
+    ++ start_write sheet node object c.start ++ mapping_writes (mapping_object object) c.mapping)
 
 -- ---- by number
 
@@ -232,45 +232,45 @@ module _ {Y : Type 0} (f : Y → List Write) (pdos : List (ℕ × Y)) (q : ℕ �
 
 -- ---- the TPDOs of a node
 
-module _ (ss : List Section) (node : ℕ) (cs : List Clean) where
+module _ (sheet : Sheet) (node : ℕ) (cs : List Clean) where
   abbrev sent : List (ℕ × Clean)
   sent = filter_map (tpdo_of node) cs
 
   -- the TPDO of a number writes to its own two objects
   number_apart : (index k : ℕ) → (tpdo_object k ≡ index → ⊥) → (mapping_object (tpdo_object k) ≡ index → ⊥)
-      → IsApart index (at_number (tpdo_writes ss node) sent k)
+      → IsApart index (at_number (tpdo_writes sheet node) sent k)
   number_apart index k apart mapping = by (lookup (is_at (nat_cmp k)) sent) refl
     where
       by : (o : Option Clean) → lookup (is_at (nat_cmp k)) sent ≡ o
-          → IsApart index (option_map_or (tpdo_writes ss node) o [])
+          → IsApart index (option_map_or (tpdo_writes sheet node) o [])
       by None is = All-nil (λ (w : Write). w.index ≡ index → ⊥)
       by (Some c) is =
           let s : Sends cs node k c = sends cs node k c is in
-          tpdo_apart index ss node c (λ e. apart (ap tpdo_object (sym s.numbered) ∙ e))
+          tpdo_apart index sheet node c (λ e. apart (ap tpdo_object (sym s.numbered) ∙ e))
           (λ e. mapping (ap (λ (n : ℕ). mapping_object (tpdo_object n)) (sym s.numbered) ∙ e))
 
   -- its COB-ID is the last thing that it writes there
-  number_sets : (values : Values) (n : ℕ) → get (after_writes values (at_number (tpdo_writes ss node) sent n))
+  number_sets : (values : Values) (n : ℕ) → get (after_writes values (at_number (tpdo_writes sheet node) sent n))
       (tpdo_object n, 1)
       ≡ option_map_or (λ c. Some (cob_id_of c)) (lookup (is_at (nat_cmp n)) sent) (get values (tpdo_object n, 1))
   number_sets values n = by (lookup (is_at (nat_cmp n)) sent) refl
     where
       by : (o : Option Clean) → lookup (is_at (nat_cmp n)) sent ≡ o
-          → get (after_writes values (option_map_or (tpdo_writes ss node) o [])) (tpdo_object n, 1)
+          → get (after_writes values (option_map_or (tpdo_writes sheet node) o [])) (tpdo_object n, 1)
           ≡ option_map_or (λ c. Some (cob_id_of c)) o (get values (tpdo_object n, 1))
       by None is = refl
       by (Some c) is =
           let s : Sends cs node n c = sends cs node n c is in
-          subst (λ (k : ℕ). get (after_writes values (tpdo_writes ss node c)) (tpdo_object k, 1) ≡ Some (cob_id_of c))
-          s.numbered (switched_on values ss node c)
+          subst (λ (k : ℕ). get (after_writes values (tpdo_writes sheet node c)) (tpdo_object k, 1) ≡ Some (cob_id_of c))
+          s.numbered (switched_on values sheet node c)
 
   -- what the writes of all TPDOs leave at a COB-ID
   sent_set : (values : Values) (n : ℕ) → 1 ≤ n → n ≤ 512
-      → get (after_writes values (by_number (tpdo_writes ss node) sent)) (tpdo_object n, 1)
+      → get (after_writes values (by_number (tpdo_writes sheet node) sent)) (tpdo_object n, 1)
       ≡ option_map_or (λ c. Some (cob_id_of c)) (lookup (is_at (nat_cmp n)) sent) (get values (tpdo_object n, 1))
   unfolding by_number
   sent_set values n low high =
-      range_one (tpdo_writes ss node) sent (tpdo_object n, 1) n 1 512 low (omega arith)
+      range_one (tpdo_writes sheet node) sent (tpdo_object n, 1) n 1 512 low (omega arith)
       (λ k above below other. number_apart (tpdo_object n) k (λ e. other (same k n e))
       (λ e. absurd (further k n above high e))) values
       ∙ number_sets values n
@@ -283,9 +283,9 @@ module _ (ss : List Section) (node : ℕ) (cs : List Clean) where
 
   -- and in the objects before all PDOs
   sent_apart : (values : Values) (q : ℕ × ℕ) → q.0 < 0x1100
-      → get (after_writes values (by_number (tpdo_writes ss node) sent)) q ≡ get values q
+      → get (after_writes values (by_number (tpdo_writes sheet node) sent)) q ≡ get values q
   unfolding by_number
-  sent_apart values q low = range_apart (tpdo_writes ss node) sent q 1 512
+  sent_apart values q low = range_apart (tpdo_writes sheet node) sent q 1 512
       (λ k above below. number_apart q.0 k (λ e. absurd (over k q.0 low e)) (λ e. absurd (far_over k q.0 low e))) values
     where
       over : (k index : ℕ) → index < 0x1100 → tpdo_object k ≡ index → ⊥
@@ -473,65 +473,65 @@ module _ (v : ℕ × ℕ → Option (List ℕ)) where
 
 -- ---- what is given
 
-module _ (params : Texts) (ss : List Section) (node : ℕ) where
+module _ (params : Texts) (sheet : Sheet) (node : ℕ) where
   -- the defaults, and over them the writes of the parameters
   abbrev pub set_up : Values
-  set_up = after_writes (defaults_of ss node) (parameter_writes ss params node)
+  set_up = after_writes (defaults_of sheet node) (parameter_writes sheet params node)
 
-  pub given_is : (q : ℕ × ℕ) → is_wanted q ≡ true → get (values_given ss params node) q ≡ get set_up q
+  pub given_is : (q : ℕ × ℕ) → is_wanted q ≡ true → get (values_given sheet params node) q ≡ get set_up q
   unfolding values_given defaults_of parameter_writes
   given_is q wanted =
-      get_given (wanted_value ss params node) (pairs_of ss) q
-      ∙ ap (λ (b : Bool). if has_place q (pairs_of ss) then (if b then value_given ss params node q else None) else None)
+      get_given (wanted_value sheet params node) (pairs_of sheet.sections) q
+      ∙ ap (λ (b : Bool). if has_place q (pairs_of sheet.sections) then (if b then value_given sheet params node q else None) else None)
       wanted
-      ∙ by (has_place q (pairs_of ss)) (get (defaults_of ss node) q)
-      (get_given (λ p. default_at ss node p.0 p.1) (pairs_of ss) q)
-      ∙ sym (given_over (parameter_value ss params node) (defaults_of ss node) q (pairs_of ss))
+      ∙ by (has_place q (pairs_of sheet.sections)) (get (defaults_of sheet node) q)
+      (get_given (λ p. default_at sheet node p.0 p.1) (pairs_of sheet.sections) q)
+      ∙ sym (given_over (parameter_value sheet params node) (defaults_of sheet node) q (pairs_of sheet.sections))
     where
-      by : (a : Bool) (d : Option (List ℕ)) → d ≡ (if a then default_at ss node q.0 q.1 else None)
-          → (if a then option_or (parameter_value ss params node q) (default_at ss node q.0 q.1) else None)
-          ≡ (if a then option_or (parameter_value ss params node q) d else d)
-      by true d is = ap (option_or (parameter_value ss params node q)) (sym is)
+      by : (a : Bool) (d : Option (List ℕ)) → d ≡ (if a then default_at sheet node q.0 q.1 else None)
+          → (if a then option_or (parameter_value sheet params node q) (default_at sheet node q.0 q.1) else None)
+          ≡ (if a then option_or (parameter_value sheet params node q) d else d)
+      by true d is = ap (option_or (parameter_value sheet params node q)) (sym is)
       by false d is = sym is
 
 -- ---- all writes
 
-module _ (plan : List PlannedMessage) (params : Texts) (ss : List Section) (node : ℕ) where
+module _ (plan : List PlannedMessage) (params : Texts) (sheet : Sheet) (node : ℕ) where
   abbrev pub whole : Values
-  whole = after_writes (defaults_of ss node) (node_writes false plan params ss node)
+  whole = after_writes (defaults_of sheet node) (node_writes false plan params sheet node)
 
   abbrev pub wanted : Values
-  wanted = with_tpdos (values_given ss params node) node plan
+  wanted = with_tpdos (values_given sheet params node) node plan
 
   abbrev tpdos : List Write
-  tpdos = by_number (tpdo_writes ss node) (filter_map (tpdo_of node) (clean plan))
+  tpdos = by_number (tpdo_writes sheet node) (filter_map (tpdo_of node) (clean plan))
 
   abbrev rpdos : List Write
   rpdos = by_number (λ t. rpdo_writes t.0 t.1) (filter_map (rpdo_of node) (clean plan))
 
-  in_turn : whole ≡ after_writes (after_writes (set_up params ss node) tpdos) rpdos
+  in_turn : whole ≡ after_writes (after_writes (set_up params sheet node) tpdos) rpdos
   unfolding node_writes set_link_writes
-  in_turn = written-append (defaults_of ss node) (parameter_writes ss params node) (tpdos ++ rpdos)
-      ∙ written-append (set_up params ss node) tpdos rpdos
+  in_turn = written-append (defaults_of sheet node) (parameter_writes sheet params node) (tpdos ++ rpdos)
+      ∙ written-append (set_up params sheet node) tpdos rpdos
 
   without_rpdos : (q : ℕ × ℕ) → (q.0 < 0x1100) ⊎ (0x1800 ≤ q.0)
-      → get whole q ≡ get (after_writes (set_up params ss node) tpdos) q
+      → get whole q ≡ get (after_writes (set_up params sheet node) tpdos) q
   without_rpdos q where_to = ap (λ (m : Values). get m q) in_turn
-      ∙ taken_apart node (clean plan) (after_writes (set_up params ss node) tpdos) q where_to
+      ∙ taken_apart node (clean plan) (after_writes (set_up params sheet node) tpdos) q where_to
 
   before_pdos : (q : ℕ × ℕ) → is_wanted q ≡ true → q.0 < 0x1100 → get wanted q ≡ get whole q
   before_pdos q is low =
-      cob_ids_apart (values_given ss params node) node q low plan ∙ given_is params ss node q is
-      ∙ sym (without_rpdos q (inl low) ∙ sent_apart ss node (clean plan) (set_up params ss node) q low)
+      cob_ids_apart (values_given sheet params node) node q low plan ∙ given_is params sheet node q is
+      ∙ sym (without_rpdos q (inl low) ∙ sent_apart sheet node (clean plan) (set_up params sheet node) q low)
 
   of_tpdos : (n : ℕ) → 1 ≤ n → n ≤ 512 → is_wanted (tpdo_object n, 1) ≡ true
       → get wanted (tpdo_object n, 1) ≡ get whole (tpdo_object n, 1)
   of_tpdos n low high is =
       let q : ℕ × ℕ = (tpdo_object n, 1) in
-      cob_ids_set (values_given ss params node) node n low high plan
+      cob_ids_set (values_given sheet params node) node n low high plan
       ∙ ap (option_map_or (λ c. Some (cob_id_of c)) (lookup (is_at (nat_cmp n)) (filter_map (tpdo_of node) (clean plan))))
-      (given_is params ss node q is)
-      ∙ sym (without_rpdos q (inr (omega arith)) ∙ sent_set ss node (clean plan) (set_up params ss node) n low high)
+      (given_is params sheet node q is)
+      ∙ sym (without_rpdos q (inr (omega arith)) ∙ sent_set sheet node (clean plan) (set_up params sheet node) n low high)
 
   wanted_is : (index sub : ℕ) → is_wanted (index, sub) ≡ true → get wanted (index, sub) ≡ get whole (index, sub)
   wanted_is index sub is = by of_object refl (sub == 1) refl
@@ -568,8 +568,8 @@ module _ (plan : List PlannedMessage) (params : Texts) (ss : List Section) (node
 
   -- a number is among what is wanted as it is among all
   pub number_wanted : (width : Width) (place : ℕ × ℕ) → is_wanted place ≡ true
-      → number_among ss wanted width place ≡ number_among ss whole width place
+      → number_among sheet wanted width place ≡ number_among sheet whole width place
   number_wanted width place is =
-      ap (λ (o : Option (List ℕ)). if is_unsigned (kind_at ss place) width
+      ap (λ (o : Option (List ℕ)). if is_unsigned (kind_at sheet place) width
       then option_map (little_number (octets width)) o else None)
       (wanted_is place.0 place.1 is)

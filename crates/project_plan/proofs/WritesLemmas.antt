@@ -40,11 +40,11 @@ takes_alone project id c k sound takes = taken_alone project sound id c takes.pl
 
 module _ (project : Content) (id : ℕ) (m : Member) where
   pub alone : is_three project.version ≡ false → is_of_messages id project.messages ≡ false
-      → writes_of project m id ≡ parameter_writes m.sections m.node.params id
+      → writes_of project m id ≡ parameter_writes m.sheet m.node.params id
   unfolding writes_of
   alone old none =
-      ap (λ (b : Bool). node_writes b (plan_of_project project) m.node.params m.sections id) old
-      ∙ parameters_alone (plan_of_project project) m.node.params m.sections id (named_by_none id project none)
+      ap (λ (b : Bool). node_writes b (plan_of_project project) m.node.params m.sheet id) old
+      ∙ parameters_alone (plan_of_project project) m.node.params m.sheet id (named_by_none id project none)
 
   -- the node's own texts name no PDO
   own_texts : IsSoundNode project id m → (place : ℕ × ℕ) → is_of_pdos place.0 ≡ true → get m.node.params place ≡ None
@@ -55,26 +55,26 @@ module _ (project : Content) (id : ℕ) (m : Member) where
   unfolding writes_of
   whose w node has pdo = by (is_three project.version) refl has
     where
-      old : is_three project.version ≡ false → SetSent (clean (plan_of_project project)) m.sections id w
+      old : is_three project.version ≡ false → SetSent (clean (plan_of_project project)) m.sheet id w
           ⊎ SetTaken (clean (plan_of_project project)) id w
           → IsOfSent project m id w ⊎ (IsOfTaken project m id w ⊎ IsOfUnused project m id w)
       old e (inl s) = inl (s.0, s.1, s.2, rw e s.3)
       old e (inr t) = inr (inl (t.0, t.1, (t.2.0, t.2.1, t.2.2, rw e t.2.3)))
 
       made : is_three project.version ≡ true
-          → IsOfThree (clean (plan_of_project project)) (as_made m.sections id) id w
+          → IsOfThree (clean (plan_of_project project)) (as_made m.sheet id) id w
           → IsOfSent project m id w ⊎ (IsOfTaken project m id w ⊎ IsOfUnused project m id w)
       made e (inl s) = inl (s.0, s.1, s.2, rw e s.3)
       made e (inr (inl t)) = inr (inl (t.0, t.1, (t.2.0, t.2.1, t.2.2, rw e t.2.3)))
       made e (inr (inr u)) = inr (inr (e, u))
 
       by : (b : Bool) → is_three project.version ≡ b
-          → Contains (node_writes b (plan_of_project project) m.node.params m.sections id) w
+          → Contains (node_writes b (plan_of_project project) m.node.params m.sheet id) w
           → IsOfSent project m id w ⊎ (IsOfTaken project m id w ⊎ IsOfUnused project m id w)
       by true e has =
-          made e (of_vendor_pdos (plan_of_project project) m.node.params m.sections id w (own_texts node) has pdo)
+          made e (of_vendor_pdos (plan_of_project project) m.node.params m.sheet id w (own_texts node) has pdo)
       by false e has =
-          old e (of_messages (plan_of_project project) m.node.params m.sections id w (own_texts node) has pdo)
+          old e (of_messages (plan_of_project project) m.node.params m.sheet id w (own_texts node) has pdo)
 
   pub sent_there : (c : Clean) → IsSoundNode project id m → Sends project id c
       → to_pdo (tpdo_object c.message.tpdo) (writes_of project m id) ≡ sent_writes project m id c
@@ -82,11 +82,11 @@ module _ (project : Content) (id : ℕ) (m : Member) where
   sent_there c node sends = by (is_three project.version)
     where
       by : (b : Bool) → to_pdo (tpdo_object c.message.tpdo)
-          (node_writes b (plan_of_project project) m.node.params m.sections id)
-          ≡ (if b then vendor_tpdo_writes (as_made m.sections id) c else tpdo_writes m.sections id c)
-      by true = to_vendor_tpdo (plan_of_project project) m.node.params m.sections id (own_texts node) c
+          (node_writes b (plan_of_project project) m.node.params m.sheet id)
+          ≡ (if b then vendor_tpdo_writes (as_made m.sheet id) c else tpdo_writes m.sheet id c)
+      by true = to_vendor_tpdo (plan_of_project project) m.node.params m.sheet id (own_texts node) c
           (sends_alone project id c node.sound sends)
-      by false = to_tpdo (plan_of_project project) m.node.params m.sections id (own_texts node) c
+      by false = to_tpdo (plan_of_project project) m.node.params m.sheet id (own_texts node) c
           (sends_alone project id c node.sound sends)
 
   pub taken_there : (c : Clean) (k : Consumer) → IsSoundNode project id m → Takes project id c k
@@ -94,15 +94,15 @@ module _ (project : Content) (id : ℕ) (m : Member) where
   unfolding writes_of
   taken_there c k node takes = by (is_three project.version)
     where
-      by : (b : Bool) → to_pdo (rpdo_object k.rpdo) (node_writes b (plan_of_project project) m.node.params m.sections id)
-          ≡ (if b then vendor_rpdo_writes (as_made m.sections id) c k else rpdo_writes c k)
-      by true = to_vendor_rpdo (plan_of_project project) m.node.params m.sections id (own_texts node) c k
+      by : (b : Bool) → to_pdo (rpdo_object k.rpdo) (node_writes b (plan_of_project project) m.node.params m.sheet id)
+          ≡ (if b then vendor_rpdo_writes (as_made m.sheet id) c k else rpdo_writes c k)
+      by true = to_vendor_rpdo (plan_of_project project) m.node.params m.sheet id (own_texts node) c k
           (takes_alone project id c k node.sound takes)
-      by false = to_rpdo (plan_of_project project) m.node.params m.sections id (own_texts node) c k
+      by false = to_rpdo (plan_of_project project) m.node.params m.sheet id (own_texts node) c k
           (takes_alone project id c k node.sound takes)
 
   -- in versions 1 and 2
-  set_sent : (c : Clean) → is_three project.version ≡ false → sent_writes project m id c ≡ tpdo_writes m.sections id c
+  set_sent : (c : Clean) → is_three project.version ≡ false → sent_writes project m id c ≡ tpdo_writes m.sheet id c
   set_sent c old = rw old refl
 
   set_taken : (c : Clean) (k : Consumer) → is_three project.version ≡ false
@@ -115,7 +115,7 @@ module _ (project : Content) (id : ℕ) (m : Member) where
   sent_configured c old node sends =
       subst (IsConfigured (tpdo_object c.message.tpdo) c.identifier c.mapping)
       (sym (sent_there c node sends ∙ set_sent c old))
-      (tpdo_configured m.sections id c (within project node.sound c sends.planned))
+      (tpdo_configured m.sheet id c (within project node.sound c sends.planned))
 
   pub taken_configured : (c : Clean) (k : Consumer) → is_three project.version ≡ false → IsSoundNode project id m
       → Takes project id c k
@@ -127,29 +127,29 @@ module _ (project : Content) (id : ℕ) (m : Member) where
 
   -- in version 3
   made_sent : (c : Clean) → is_three project.version ≡ true
-      → sent_writes project m id c ≡ vendor_tpdo_writes (as_made m.sections id) c
+      → sent_writes project m id c ≡ vendor_tpdo_writes (as_made m.sheet id) c
   made_sent c new = rw new refl
 
   made_taken : (c : Clean) (k : Consumer) → is_three project.version ≡ true
-      → taken_writes project m id c k ≡ vendor_rpdo_writes (as_made m.sections id) c k
+      → taken_writes project m id c k ≡ vendor_rpdo_writes (as_made m.sheet id) c k
   made_taken c k new = rw new refl
 
   pub sent_as_made : (c : Clean) → is_three project.version ≡ true → IsSoundNode project id m → Sends project id c
-      → IsConfiguredAsMade (as_made m.sections id) (tpdo_object c.message.tpdo) c.identifier c.mapping
+      → IsConfiguredAsMade (as_made m.sheet id) (tpdo_object c.message.tpdo) c.identifier c.mapping
       (to_pdo (tpdo_object c.message.tpdo) (writes_of project m id))
   sent_as_made c new node sends =
-      subst (IsConfiguredAsMade (as_made m.sections id) (tpdo_object c.message.tpdo) c.identifier c.mapping)
+      subst (IsConfiguredAsMade (as_made m.sheet id) (tpdo_object c.message.tpdo) c.identifier c.mapping)
       (sym (sent_there c node sends ∙ made_sent c new))
-      (vendor_tpdo_configured (as_made m.sections id) c (within project node.sound c sends.planned))
+      (vendor_tpdo_configured (as_made m.sheet id) c (within project node.sound c sends.planned))
 
   pub taken_as_made : (c : Clean) (k : Consumer) → is_three project.version ≡ true → IsSoundNode project id m
       → Takes project id c k
-      → IsConfiguredAsMade (as_made m.sections id) (rpdo_object k.rpdo) c.identifier k.mapping
+      → IsConfiguredAsMade (as_made m.sheet id) (rpdo_object k.rpdo) c.identifier k.mapping
       (to_pdo (rpdo_object k.rpdo) (writes_of project m id))
   taken_as_made c k new node takes =
-      subst (IsConfiguredAsMade (as_made m.sections id) (rpdo_object k.rpdo) c.identifier k.mapping)
+      subst (IsConfiguredAsMade (as_made m.sheet id) (rpdo_object k.rpdo) c.identifier k.mapping)
       (sym (taken_there c k node takes ∙ made_taken c k new))
-      (vendor_rpdo_configured (as_made m.sections id) c k (within project node.sound c takes.planned))
+      (vendor_rpdo_configured (as_made m.sheet id) c k (within project node.sound c takes.planned))
 
   -- what is to a PDO is among all
   of_filter : (test : Write → Bool) (ws : List Write) (w : Write) → Contains (filter test ws) w → Contains ws w

@@ -18,7 +18,7 @@ Shapes = ℕ → Option Shaped
 
 -- the entries of the device of its EDS, at its number
 unfoldable pub shape_of_node : Content → ℕ → Option Shaped
-shape_of_node project node = option_map (λ (m : Member). shape_of m.sections node) (member_at project node)
+shape_of_node project node = option_map (λ (m : Member). shape_of m.sheet node) (member_at project node)
 
 -- the value that an event sets: none where the entry isn't there, its type isn't modelled, or the text spells no value
 -- of it at the node

@@ -25,12 +25,12 @@ to_pdo object ws = filter (is_to_pdo object) ws
 -- the writes of the TPDO by which a node of a project sends a message, by the rules of the project's version
 abbrev pub sent_writes : Content → Member → ℕ → Clean → List Write
 sent_writes project m id c =
-    if is_three project.version then vendor_tpdo_writes (as_made m.sections id) c else tpdo_writes m.sections id c
+    if is_three project.version then vendor_tpdo_writes (as_made m.sheet id) c else tpdo_writes m.sheet id c
 
 -- and those of the RPDO by which it takes one
 abbrev pub taken_writes : Content → Member → ℕ → Clean → Consumer → List Write
 taken_writes project m id c k =
-    if is_three project.version then vendor_rpdo_writes (as_made m.sections id) c k else rpdo_writes c k
+    if is_three project.version then vendor_rpdo_writes (as_made m.sheet id) c k else rpdo_writes c k
 
 -- a write of the TPDO by which a node sends one of the clean messages, or of the RPDO by which it takes one
 abbrev pub IsOfSent : Content → Member → ℕ → Write → Type 0
@@ -44,9 +44,9 @@ IsOfTaken project m id w = (c : Clean) × Contains (clean (plan_of_project proje
 -- in version 3: a write that switches off a PDO of a node that none of them uses
 abbrev pub IsOfUnused : Content → Member → ℕ → Write → Type 0
 IsOfUnused project m id w = (is_three project.version ≡ true)
-    × SwitchesOff (clean (plan_of_project project)) (as_made m.sections id) id w
+    × SwitchesOff (clean (plan_of_project project)) (as_made m.sheet id) id w
 
 -- in version 3: a parameter of the TPDO of a message has this number by default
 abbrev pub StandsByDefault : Content → Member → ℕ → Clean → ℕ → ℕ → Type 0
 StandsByDefault project m id c sub number = (is_three project.version ≡ true)
-    × (parameter_default (as_made m.sections id) (tpdo_object c.message.tpdo) sub ≡ number)
+    × (parameter_default (as_made m.sheet id) (tpdo_object c.message.tpdo) sub ≡ number)

@@ -5,12 +5,12 @@ use Rattle.std.specs.FinMap.{get, insert}
 use Rattle.byteorder.specs.Endian.{little_number}
 use Rattle.co_values.specs.declared.form.Width.{Width}
 use Rattle.co_values.specs.Types.{octets}
-use Rattle.ini_text.specs.Content.{Section}
 use Rattle.co_dict.specs.Values.{Values}
 use Rattle.concise_dcf.specs.declared.write.Write.{Write}
 use Rattle.concise_dcf.specs.Writes.{place_of}
 use Rattle.eds_device.specs.Described.{kind_at}
 use Rattle.eds_device.specs.Entries.{defaults_of}
+use Rattle.eds_device.specs.Sheets.{Sheet}
 use Rattle.pdo_stations.specs.Devices.{is_unsigned}
 use Rattle.co_project.specs.Project.{Content}
 use Rattle.project_plan.specs.Network.{Member, writes_of}
@@ -22,17 +22,17 @@ after_writes values (w ∷ ws) = after_writes (insert values (place_of w) w.byte
 
 -- the values of a node once it is configured
 unfoldable pub values_after : Content → Member → ℕ → Values
-values_after p m node = after_writes (defaults_of m.sections node) (writes_of p m node)
+values_after p m node = after_writes (defaults_of m.sheet node) (writes_of p m node)
 
 -- the numbers of a node: that of each entry that is there and UNSIGNEDn of a width
 abbrev pub Numbers : Type 0
 Numbers = Width → ℕ × ℕ → Option ℕ
 
 -- those that entries have among values
-abbrev pub number_among : List Section → Values → Width → ℕ × ℕ → Option ℕ
-number_among ss values width place =
-    if is_unsigned (kind_at ss place) width then option_map (little_number (octets width)) (get values place) else None
+abbrev pub number_among : Sheet → Values → Width → ℕ × ℕ → Option ℕ
+number_among sheet values width place =
+    if is_unsigned (kind_at sheet place) width then option_map (little_number (octets width)) (get values place) else None
 
 -- those that they have once the node is configured
 unfoldable pub number_after : Content → Member → ℕ → Width → ℕ × ℕ → Option ℕ
-number_after p m node width place = number_among m.sections (values_after p m node) width place
+number_after p m node width place = number_among m.sheet (values_after p m node) width place

@@ -8,13 +8,13 @@ use Rattle.std.specs.Result.{result_ok}
 use Rattle.byteorder.specs.Endian.{little_bytes}
 use Rattle.base.specs.Ranges.{is_between}
 use Rattle.cia301.specs.CobIds.{no_rtr_bit}
-use Rattle.ini_text.specs.Content.{Section}
 use Rattle.co_dict.specs.Values.{Values}
 use Rattle.node_parameters.specs.Judgement.{parameter_bytes}
 use Rattle.node_parameters.specs.Parameters.{parameter_text}
 use Rattle.node_parameters.specs.Params.{Texts}
 use Rattle.eds_device.specs.Entries.{default_at, entry_at, given_at}
 use Rattle.eds_device.specs.Places.{pairs_of}
+use Rattle.eds_device.specs.Sheets.{Sheet}
 use Rattle.cia301.specs.PdoObjects.{is_communication_object, is_of_tpdos, tpdo_object}
 use Rattle.pdo_choices.specs.declared.clean.Clean.{Clean}
 use Rattle.pdo_plan.specs.declared.planned_message.PlannedMessage.{PlannedMessage}
@@ -38,22 +38,22 @@ abbrev pub is_wanted : ℕ × ℕ → Bool
 is_wanted place = is_tpdo_cob_id place || (is_between 0x1016 0x1017 place.0 || place.0 == 0x1019)
 
 -- what the parameter of an entry gives it, where it has a text and no fault
-abbrev pub parameter_value : List Section → Texts → ℕ → ℕ × ℕ → Option (List ℕ)
-parameter_value ss params node place =
-    option_and_then (λ text. result_ok (parameter_bytes (entry_at ss node place.0 place.1) text node))
-    (parameter_text ss params place)
+abbrev pub parameter_value : Sheet → Texts → ℕ → ℕ × ℕ → Option (List ℕ)
+parameter_value sheet params node place =
+    option_and_then (λ text. result_ok (parameter_bytes (entry_at sheet node place.0 place.1) text node))
+    (parameter_text sheet.sections params place)
 
 -- and else its default
-abbrev pub value_given : List Section → Texts → ℕ → ℕ × ℕ → Option (List ℕ)
-value_given ss params node place =
-    option_or (parameter_value ss params node place) (default_at ss node place.0 place.1)
+abbrev pub value_given : Sheet → Texts → ℕ → ℕ × ℕ → Option (List ℕ)
+value_given sheet params node place =
+    option_or (parameter_value sheet params node place) (default_at sheet node place.0 place.1)
 
-abbrev pub wanted_value : List Section → Texts → ℕ → ℕ × ℕ → Option (List ℕ)
-wanted_value ss params node place = if is_wanted place then value_given ss params node place else None
+abbrev pub wanted_value : Sheet → Texts → ℕ → ℕ × ℕ → Option (List ℕ)
+wanted_value sheet params node place = if is_wanted place then value_given sheet params node place else None
 
 -- what is given to all entries whose value is wanted
-unfoldable pub values_given : List Section → Texts → ℕ → Values
-values_given ss params node = from_entries (given_at (wanted_value ss params node) (pairs_of ss))
+unfoldable pub values_given : Sheet → Texts → ℕ → Values
+values_given sheet params node = from_entries (given_at (wanted_value sheet params node) (pairs_of sheet.sections))
 
 -- the COB-ID with which a message switches its sender's TPDO on
 abbrev pub cob_id_of : Clean → List ℕ
@@ -86,5 +86,5 @@ sends plan node = list_any (is_sent_by node) plan
 -- the values that are wanted of a node once it is configured by a plan, by the rules of version 3 or not
 abbrev pub wanted_by : Bool → List PlannedMessage → ℕ × Member → Values
 wanted_by is_three plan e =
-    let given = values_given e.1.sections e.1.node.params e.0 in
-    if is_three then with_vendor_tpdos given plan (as_made e.1.sections e.0) e.0 else with_tpdos given e.0 plan
+    let given = values_given e.1.sheet e.1.node.params e.0 in
+    if is_three then with_vendor_tpdos given plan (as_made e.1.sheet e.0) e.0 else with_tpdos given e.0 plan

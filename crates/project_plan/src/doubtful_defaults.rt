@@ -18,7 +18,7 @@ pub fn spells_none(id: u8, text: &Spelling<'_>, kind: DataType) -> bool
 /// other at another, spells one at each.
 #[tactic(auto, unfolding(crate::specs::Doubtful::is_doubtful))]
 fn is_doubtful(device: &DataSheet, index: u16, sub: u8) -> bool
-    ensures { result ≡ is_doubtful device.now.sections (index, sub) }
+    ensures { result ≡ is_doubtful device.now (index, sub) }
 {
     match device.default_given(index, sub) {
         Some((text, kind)) => text.may_vary(kind) || !is_spelled(kind, &text, 1),
@@ -32,7 +32,7 @@ pub(crate) fn doubtful_places(
     alloc: Global,
     device: &DataSheet,
 ) -> Result<Vec<(u16, u8)>, AllocError>
-    ensures { IfOk result (λ places. places.items ≡ doubtful_places device.now.sections) }
+    ensures { IfOk result (λ places. places.items ≡ doubtful_places device.now) }
 {
     let mut places = Vec::new(alloc);
     for place in device.pairs() {

@@ -22,5 +22,5 @@ pub use library::Library;
 pub use named::Named;
 pub use node_writes::NodeWrites;
 pub use numbers::{unsigned_8, unsigned_16, unsigned_32};
-pub use sheet_entries::{SheetEntries, sheet_of};
+pub use sheet_entries::{SheetEntries, entries_of_sheet};
 pub use wanted::{is_tpdo_cob_id, sends, values_given, vendor_wanted_values, wanted_values};

@@ -56,8 +56,8 @@ impl<'a> Library<'a> {
         self.project
     }
 
-    /// Reads the device of an EDS, unless it was read or there is no text of that name. Want of
-    /// memory changes nothing.
+    /// Reads the device of an EDS, with the data types that the version of the project knows, unless it was read or
+    /// there is no text of that name. Want of memory changes nothing.
     ///
     /// Takes time by the length of the text and its logarithm, or by the logarithm of the number of
     /// texts where it was read before.
@@ -75,7 +75,8 @@ impl<'a> Library<'a> {
         let Some(text) = project.text(name) else {
             return Ok(());
         };
-        let read = read_device(self.alloc, text)?;
+        let is_three = project.version().is_three();
+        let read = read_device(self.alloc, is_three, text)?;
         let device = Shared::new(self.alloc, read)?;
         let name = Vec::from_slice(self.alloc, name)?;
         self.devices.insert(name, device)?;

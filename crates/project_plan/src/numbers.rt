@@ -10,7 +10,7 @@ use pdo_stations::is_unsigned;
 
 /// The number that an entry has among values, where it is there and UNSIGNED8.
 pub fn unsigned_8(device: &DataSheet, values: &Dict, index: u16, sub: u8) -> Option<u8>
-    ensures { result ≡ number_among device.now.sections values.now Bits8 (index, sub) }
+    ensures { result ≡ number_among device.now values.now Bits8 (index, sub) }
 {
     if !is_unsigned(device.kind(index, sub), Width::Bits8) {
         return None;
@@ -21,7 +21,7 @@ pub fn unsigned_8(device: &DataSheet, values: &Dict, index: u16, sub: u8) -> Opt
 
 /// The number that an entry has among values, where it is there and UNSIGNED16.
 pub fn unsigned_16(device: &DataSheet, values: &Dict, index: u16, sub: u8) -> Option<u16>
-    ensures { result ≡ number_among device.now.sections values.now Bits16 (index, sub) }
+    ensures { result ≡ number_among device.now values.now Bits16 (index, sub) }
 {
     if !is_unsigned(device.kind(index, sub), Width::Bits16) {
         return None;
@@ -32,7 +32,7 @@ pub fn unsigned_16(device: &DataSheet, values: &Dict, index: u16, sub: u8) -> Op
 
 /// The number that an entry has among values, where it is there and UNSIGNED32.
 pub fn unsigned_32(device: &DataSheet, values: &Dict, index: u16, sub: u8) -> Option<u32>
-    ensures { result ≡ number_among device.now.sections values.now Bits32 (index, sub) }
+    ensures { result ≡ number_among device.now values.now Bits32 (index, sub) }
 {
     if !is_unsigned(device.kind(index, sub), Width::Bits32) {
         return None;

@@ -1,6 +1,6 @@
 //! The entries of a data sheet that have to be looked at at each of its nodes.
 ghost use Rattle.std.specs.Prelude.{IfOk};
-ghost use Rattle.project_plan.specs.Sheets.{IsSheetOf};
+ghost use Rattle.project_plan.specs.Sheets.{AreEntriesOf};
 
 use crate::doubtful_defaults::doubtful_places;
 use crate::given_parameters::given_places;
@@ -17,9 +17,9 @@ pub struct SheetEntries {
     pub doubtful: Vec<(u16, u8)>,
 }
 
-/// The entries of the data sheet of a device. Takes time by the number of entries, at most 4,096, and the logarithm of it.
-pub fn sheet_of(alloc: Global, device: &DataSheet) -> Result<SheetEntries, AllocError>
-    ensures { IfOk result (IsSheetOf device.now) }
+/// These entries of a data sheet. Takes time by the number of its entries, at most 4,096, and the logarithm of it.
+pub fn entries_of_sheet(alloc: Global, device: &DataSheet) -> Result<SheetEntries, AllocError>
+    ensures { IfOk result (AreEntriesOf device.now) }
 {
     let given = given_places(alloc, device)?;
     let doubtful = doubtful_places(alloc, device)?;

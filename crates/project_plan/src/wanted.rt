@@ -48,7 +48,7 @@ fn parameter_value(
     index: u16,
     sub: u8,
 ) -> Result<Option<Octets>, AllocError>
-    ensures value { IfOk result (λ value. value ≡ parameter_value device.now.sections params.now id (index, sub)) }
+    ensures value { IfOk result (λ value. value ≡ parameter_value device.now params.now id (index, sub)) }
     ensures short { IfOk result (λ value. IfSome value (λ bytes. length bytes ≤ longest_value)) }
 {
     let Some(text) = parameter_text(params, device, index, sub) else {
@@ -71,7 +71,7 @@ fn add_given(
     sub: u8,
 ) -> Result<(), AllocError>
     ensures { OnOk result (values.new ≡ option_map_or (map.insert values.old (index, sub))
-        (value_given device.now.sections params.now id (index, sub)) values.old) }
+        (value_given device.now params.now id (index, sub)) values.old) }
 {
     match parameter_value(alloc, id, params, device, index, sub)? {
         Some(bytes) => values.write(index, sub, bytes.as_slice()),
@@ -90,7 +90,7 @@ fn add_wanted(
     sub: u8,
 ) -> Result<(), AllocError>
     ensures { OnOk result (values.new ≡ option_map_or (map.insert values.old (index, sub))
-        (wanted_value device.now.sections params.now id (index, sub)) values.old) }
+        (wanted_value device.now params.now id (index, sub)) values.old) }
 {
     if is_wanted(index, sub) {
         add_given(values, alloc, id, params, device, index, sub)
@@ -110,7 +110,7 @@ pub fn values_given(
     params: &Params,
     device: &DataSheet,
 ) -> Result<Dict, AllocError>
-    ensures { IfOk result (λ values. values ≡ values_given device.now.sections params.now id) }
+    ensures { IfOk result (λ values. values ≡ values_given device.now params.now id) }
 {
     let mut values = Dict::new(alloc);
     for place in device.pairs() {

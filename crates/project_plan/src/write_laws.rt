@@ -47,11 +47,11 @@ pub fn a_nodes_pdos_are_configured_while_they_are_off()
 pub fn a_nodes_pdos_are_configured_as_their_vendors_made_them()
     ensures sent { (project : Content) (id : ℕ) (m : Member) (c : Clean) → is_three project.version ≡ true
         → IsSoundNode project id m → Sends project id c
-        → IsConfiguredAsMade (as_made m.sections id) (tpdo_object c.message.tpdo) c.identifier c.mapping
+        → IsConfiguredAsMade (as_made m.sheet id) (tpdo_object c.message.tpdo) c.identifier c.mapping
         (to_pdo (tpdo_object c.message.tpdo) (writes_of project m id)) }
     ensures taken { (project : Content) (id : ℕ) (m : Member) (c : Clean) (k : Consumer)
         → is_three project.version ≡ true → IsSoundNode project id m → Takes project id c k
-        → IsConfiguredAsMade (as_made m.sections id) (rpdo_object k.rpdo) c.identifier k.mapping
+        → IsConfiguredAsMade (as_made m.sheet id) (rpdo_object k.rpdo) c.identifier k.mapping
         (to_pdo (rpdo_object k.rpdo) (writes_of project m id)) }
 {}
 
@@ -91,5 +91,5 @@ pub fn the_writes_to_pdos_are_those_of_the_nodes_messages()
         → IsOfSent project m id w ⊎ (IsOfTaken project m id w ⊎ IsOfUnused project m id w) }
     ensures alone { (project : Content) (id : ℕ) (m : Member) → is_three project.version ≡ false
         → is_of_messages id project.messages ≡ false
-        → writes_of project m id ≡ parameter_writes m.sections m.node.params id }
+        → writes_of project m id ≡ parameter_writes m.sheet m.node.params id }
 {}

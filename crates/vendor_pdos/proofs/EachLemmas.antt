@@ -22,6 +22,31 @@ module _ (test : ℕ → Bool) where
       ap (λ b. b || some_from (first + 1) last) noted
       ∙ or_same found (test first) (some_from (first + 1) last) whole all
 
+  -- numbers that don't pass are left out
+  left_out : (d first n : ℕ) → ((k : ℕ) → first ≤ k → k < first + d → test k ≡ false)
+      → list_any test (range_with_len first (d + n)) ≡ list_any test (range_with_len (first + d) n)
+  left_out zero first n none =
+      let all : 0 + n ≡ n = omega arith in
+      let same : first ≡ first + 0 = omega arith in
+      ap (λ k. list_any test (range_with_len first k)) all ∙ ap (λ k. list_any test (range_with_len k n)) same
+  left_out (suc d) first n none =
+      let one : suc d + n ≡ suc (d + n) = omega arith in
+      let same : first + 1 + d ≡ first + suc d = omega arith in
+      ap (λ k. list_any test (range_with_len first k)) one
+      ∙ ap (λ b. b || list_any test (range_with_len (first + 1) (d + n))) (none first (omega arith) (omega arith))
+      ∙ left_out d (first + 1) n (λ k low below. none k (omega arith) (omega arith))
+      ∙ ap (λ k. list_any test (range_with_len k n)) same
+
+  pub some_further : (first next last : ℕ) (found whole : Bool) → first ≤ next → next ≤ last
+      → ((k : ℕ) → first ≤ k → k < next → test k ≡ false) → (found || some_from first last) ≡ whole
+      → (found || some_from next last) ≡ whole
+  some_further first next last found whole low high none so_far =
+      let long : last - first ≡ (next - first) + (last - next) = omega (arith, low, high) in
+      let here : first + (next - first) ≡ next = omega (arith, low) in
+      sym (ap (λ b. found || b) (ap (λ n. list_any test (range_with_len first n)) long
+      ∙ left_out (next - first) first (last - next) (λ k from below. none k from (omega (arith, below, here)))
+      ∙ ap (λ k. list_any test (range_with_len k (last - next))) here)) ∙ so_far
+
   or_false : (a : Bool) → a || false ≡ a
   or_false true = refl
   or_false false = refl

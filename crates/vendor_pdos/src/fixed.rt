@@ -1,22 +1,10 @@
 //! The identifiers that vendors fixed.
 ghost use Rattle.std.specs.Prelude.{◌≡◌, ◌<◌, IfSome};
-ghost use Rattle.vendor_pdos.specs.Fixed.{fixed_identifier, has_fixed, is_fixed_on};
-ghost use Rattle.vendor_pdos.specs.Parameters.{parameter_default};
+ghost use Rattle.vendor_pdos.specs.Fixed.{fixed_identifier, has_fixed};
 
 use crate::parameters::{COB_ID, has_parameter, is_open};
 use cia301::CobId;
 use pdo_stations::AsMade;
-
-/// Whether a PDO is closed, and by default on with an identifier of 11 bits.
-fn is_fixed_on(device: &AsMade, object: u16, cob_id: CobId) -> bool
-    requires { cob_id ≡ parameter_default device.now object 1 }
-    ensures { result ≡ is_fixed_on device.now object }
-{
-    has_parameter(device, object, COB_ID)
-        && !is_open(device, object)
-        && cob_id.is_valid()
-        && cob_id.is_of_base_frames()
-}
 
 /// The fixed identifier of the PDO with this communication object: that of its default COB-ID, where this can't be
 /// written, is on and has an identifier of 11 bits.
@@ -25,8 +13,11 @@ pub fn fixed_identifier(device: &AsMade, object: u16) -> Option<u16>
     ensures identifier { result ≡ fixed_identifier device.now object }
     ensures below { IfSome result (λ id. id < 0x800) }
 {
+    if !has_parameter(device, object, COB_ID) || is_open(device, object) {
+        return None;
+    }
     let cob_id = CobId::of(device.defaults.number_32(object, COB_ID));
-    if is_fixed_on(device, object, cob_id) {
+    if cob_id.is_valid() && cob_id.is_of_base_frames() {
         Some(cob_id.identifier().number())
     } else {
         None

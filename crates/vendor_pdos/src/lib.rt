@@ -6,6 +6,7 @@ mod fixed;
 mod known_stations;
 mod mappings;
 mod parameters;
+mod present;
 mod serving;
 mod wanted;
 mod withheld;
@@ -16,5 +17,6 @@ pub use mappings::writes_mapping;
 pub use parameters::{
     can_be_set, has_at, has_parameter, is_open, number_serves, parameter_default, parameter_width,
 };
+pub use present::{next_rpdo, next_tpdo};
 pub use serving::{sends, takes};
 pub use wanted::{Sender, Taker, Wants};

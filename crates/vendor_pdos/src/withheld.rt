@@ -1,5 +1,5 @@
 //! The identifiers that are withheld from automatic choice.
-ghost use Rattle.std.specs.Prelude.{◌≡◌, ◌≤◌, ◌||◌, ℕ, false, option_and_then, IfOk, OnOk};
+ghost use Rattle.std.specs.Prelude.{◌≡◌, ◌<◌, ◌≤◌, ◌||◌, ℕ, false, option_and_then, IfOk, OnOk};
 ghost use Rattle.std.specs.Option.{option_map_or};
 ghost use Rattle.std.specs.BTreeSet.{contains};
 ghost use Rattle.std.specs.Ordering.{nat_cmp};
@@ -8,7 +8,8 @@ ghost use Rattle.pdo_stations.specs.Stations.{devices_in};
 ghost use Rattle.vendor_pdos.specs.Fixed.{fixes, has_fixed, is_withheld};
 
 use crate::fixed::fixed_identifier;
-use cia301::{rpdo_object, tpdo_object};
+use crate::present::{next_rpdo, next_tpdo};
+use cia301::{LAST_PDO, rpdo_object, tpdo_object};
 use pdo_stations::{AsMade, Stations};
 use std::alloc::{AllocError, Global};
 use std::collections::BTreeSet;
@@ -39,14 +40,27 @@ fn withhold_both(
     withhold(identifiers, device, rpdo_object(number))
 }
 
+/// The least number, from a given one on and up to 512, of a TPDO or an RPDO whose communication object a device has;
+/// 513 where there is none.
+fn next_of_both(device: &AsMade, from: u16) -> u16
+    requires { from ≤ 513 }
+    ensures low { from ≤ result }
+    ensures high { result ≤ 513 }
+    ensures before { (number id : ℕ) → from ≤ number → number < result
+        → (has_fixed device.now (tpdo_object number) id || has_fixed device.now (rpdo_object number) id) ≡ false }
+{
+    next_tpdo(device, from).min(next_rpdo(device, from))
+}
+
 /// Withholds the fixed identifiers of all PDOs of a device.
-#[tactic(auto, unfolding(crate::specs::Fixed::fixes))]
 fn withhold_all(identifiers: &mut BTreeSet<u16>, device: &AsMade) -> Result<(), AllocError>
     ensures { OnOk result ((id : ℕ) → contains nat_cmp identifiers.new id
         ≡ (contains nat_cmp identifiers.old id || fixes device.now id)) }
 {
-    for number in 1..513 {
+    let mut number = next_of_both(device, 1);
+    'numbers: while number <= LAST_PDO {
         withhold_both(identifiers, device, number)?;
+        number = next_of_both(device, number + 1);
     }
     Ok(())
 }

@@ -2,13 +2,14 @@
 use Rattle.std.proofs.Common.{◌≡◌, ℕ, List, true, Option, Some, None, is_some, option_map, option_and_then}
 use Rattle.std.proofs.Common.{refl, ap, ◌∙◌}
 use Rattle.std.specs.FinMap.{contains_key}
-use Rattle.ini_text.specs.Content.{content_of}
+use Rattle.eds_device.specs.Sheets.{sheet_of, Sheet}
 use Rattle.kept_values.specs.Shelved.{kept_at}
 use Rattle.kept_values.proofs.Brought.{option_map_back}
+use Rattle.project_edits.specs.Versions.{is_three}
 use Rattle.co_project.specs.declared.node.Node.{Node}
 use Rattle.co_project.specs.Project.{Content}
 use Rattle.co_project.specs.Tables.{node_at, text_at}
-use Rattle.project_plan.specs.Network.{member_at, plan_of_project, with_sections, writes_of, Member}
+use Rattle.project_plan.specs.Network.{member_at, plan_of_project, with_sheet, writes_of, Member}
 use Rattle.ini_text.specs.Change.{text_of}
 use Rattle.concise_dcf.specs.Concise.{text_of as concise_text}
 use Rattle.eds_dcf.specs.Dcf.{dcf_sections}
@@ -60,12 +61,13 @@ pub is_member : (p : Content) (id : ℕ) (node : Node) → node_at p.nodes id �
     → contains_key p.texts node.eds ≡ true → is_some (member_at p id) ≡ true
 unfolding member_at
 is_member p id node there known =
-    ap (λ (o : Option Node). is_some (option_and_then (with_sections p) o)) there ∙ by (text_at p.texts node.eds) known
+    ap (λ (o : Option Node). is_some (option_and_then (with_sheet p) o)) there ∙ by (text_at p.texts node.eds) known
   where
-    member : List ℕ → Member
-    member t = record { node = node; sections = (content_of t).sections }
+    member : Sheet → Member
+    member sheet = record { node = node; sheet = sheet }
 
-    by : (o : Option (List ℕ)) → is_some o ≡ true → is_some (option_map member o) ≡ true
+    by : (o : Option (List ℕ)) → is_some o ≡ true
+        → is_some (option_map member (option_map (sheet_of (is_three p.version)) o)) ≡ true
     by None known = known
     by (Some text) known = refl
 
@@ -76,7 +78,7 @@ module _ (p : Content) (id : ℕ) where
   dcf_there there none = by (member_at p id) there none
     where
       by : (o : Option Member) → is_some o ≡ true → None ≡ option_map (λ (m : Member). text_of
-          (dcf_sections m.sections id m.node.name p.bitrate (writes_of p m id))) o → ⊥
+          (dcf_sections m.sheet id m.node.name p.bitrate (writes_of p m id))) o → ⊥
       by None there none = cc
       by (Some m) there none = cc
 

@@ -13,4 +13,4 @@ pub is_its_text : (p : Content) (id : ℕ) (m : Member) → IsSoundNode p id m �
 unfolding dcf_of dcf_text
 is_its_text p id m is =
     ap (λ (o : Option Member). option_map (λ (m : Member). text_of
-    (dcf_sections m.sections id m.node.name p.bitrate (writes_of p m id))) o) is.there
+    (dcf_sections m.sheet id m.node.name p.bitrate (writes_of p m id))) o) is.there

@@ -28,7 +28,7 @@ or_unknown (Some x) = Ok x
 unfoldable pub dcf_of : Content → ℕ → Option (List ℕ)
 dcf_of project id =
     option_map (λ (m : Member). text_of
-    (dcf_sections m.sections id m.node.name project.bitrate (writes_of project m id))) (member_at project id)
+    (dcf_sections m.sheet id m.node.name project.bitrate (writes_of project m id))) (member_at project id)
 
 -- THE CONCISE DCF (CiA 302) of the node of a number: the writes that configure it
 unfoldable pub concise_of : Content → ℕ → Option (List ℕ)

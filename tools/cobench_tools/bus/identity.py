@@ -13,7 +13,6 @@ DEVICE_TYPE, VENDOR, PRODUCT, REVISION, SERIAL = (0x1000, 0), (0x1018, 1), (0x10
 NUMBERS = {DEVICE_TYPE: "device type", VENDOR: "vendor", PRODUCT: "product", REVISION: "revision",
            SERIAL: "serial number"}
 OF_A_KIND = DEVICE_TYPE, VENDOR, PRODUCT
-UNSIGNED = (0x05, 0x06, 0x07)
 
 
 def expected(device: Device, node: int) -> Dict[Key, int]:
@@ -21,7 +20,7 @@ def expected(device: Device, node: int) -> Dict[Key, int]:
     found = {}
     for key in NUMBERS:
         entry = device.entries.get(key)
-        data = values.default_of(entry, node) if entry and entry.kind in UNSIGNED else b""
+        data = values.default_of(entry, node) if entry and entry.is_of_identity() else b""
         found[key] = int.from_bytes(data, "little")
     return found
 

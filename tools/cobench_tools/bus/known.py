@@ -3,6 +3,7 @@ import argparse
 from typing import Any, Callable, List, Optional
 
 from .. import script, session, tool, within
+from ..data_types import WHOLE
 from ..device import Device, Entry
 from ..origins import Origins
 from ..replies import QUERIES
@@ -80,7 +81,7 @@ class Known:
             self._take_script(options)
         elif options.eds:
             self.eds, self.lines = options.eds, script.eds_lines(b"sheet", options.eds)
-            self.device, self._place = Device(self.lines), lambda line: tool.Place(options.eds, line)
+            self.device, self._place = Device(self.lines, WHOLE), lambda line: tool.Place(options.eds, line)
 
     def _take_script(self, options: argparse.Namespace) -> None:
         answered = session.run(options.script, options.cobench, (), edits_of)
@@ -90,7 +91,7 @@ class Known:
         if self.planned:
             name, self.eds = project.nodes[self.number]
             self.name, self.label, self.lines = f"node {self.number} {name}", name, project.texts[self.eds]
-            self.device, origins = Device(self.lines), Origins(answered.pairs)
+            self.device, origins = Device(self.lines, project.version), Origins(answered.pairs)
             self._place = lambda line: origins.sheet_place(self.eds, line)
         elif not getattr(options, "force", False):
             raise tool.Fault(f"{tool.name_of(options.script)} has no node {self.number}"

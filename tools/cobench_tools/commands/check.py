@@ -11,7 +11,8 @@ project that the script makes, each node that fails to boot or isn't configured 
 the horizon, each emergency of the planned run that no event explains, with the
 nodes that it stops, and each message that never comes. Warnings are about
 lines that a later one replaces, messages without a source or a sink, events behind
-the horizon, and data sheets that rule the bit rate out or have faults:
+the horizon, REALs outside their limits, and data sheets that rule the bit rate out or
+have faults:
 
   net.txt:12: error: message y: sink 1 of .. has 32 bits, and source 1 .. 16 [E09]
 

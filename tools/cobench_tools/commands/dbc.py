@@ -6,7 +6,8 @@ SUMMARY = "print the PDOs as a DBC, for tools that name and plot signals"
 
 AFTER = f"""Runs cobench on SCRIPT, and prints each TPDO that works as a message of a DBC, with
 a signal for each entry that it carries: its name in the data sheet, its type and
-limits, and the nodes that take it. A TPDO that no message sets, and that a device
+limits, and the nodes that take it; a REAL32 or REAL64 is a float or a double of IEEE
+754 (SIG_VALTYPE_). A TPDO that no message sets, and that a device
 has switched on by its defaults, stands with them. With --names receiver the signal of a
 network variable (A000h to AFFFh), or of an entry whose name says nothing, as Out_i32_1,
 has the name that its receivers have, with their nodes. Names are cut to 32 letters, and

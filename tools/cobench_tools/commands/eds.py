@@ -1,5 +1,6 @@
 """Prints the `eds` command of a file."""
 from .. import acceptance, findings, network, pdo_values, script, sheet_faults, tool
+from ..data_types import WHOLE
 from ..device import Device
 
 SUMMARY = "print `eds NAME LINES` and the lines of an EDS, counted; say what is wrong with it"
@@ -32,7 +33,7 @@ def wrong_with(options, lines):
     def place(line):
         return tool.Place(options.file, line)
 
-    device = Device(lines)
+    device = Device(lines, WHOLE)
     found = findings.values_of_pdos(options.name, pdo_values.lines_of(device), place)
     found += sheet_faults.findings_of(options.name, sheet_faults.faults_of(device, lines), place)
     acceptance.judge(found, options, acceptance.SHEET)

@@ -9,7 +9,8 @@ TRACE is the replies to it (the project is then as it was at that trace), or the
 lines of a trace alone, as `cobtool export` writes them (the project is then that
 of the whole script). One of both can be - for the standard input. Values of
 unsigned types are hexadecimal with an h (10h is 16), those of signed types
-decimal.
+decimal; of REAL32 and REAL64 in version 3 the shortest decimal number that reads back,
+or NaN, inf or -inf.
 
 {view.HELP}
 
@@ -41,7 +42,7 @@ def signal_rows(line, said, network):
     start = 0
     for label, bits, kind in said.parts or ():
         entry, _, name = label.partition(" ")
-        value = device.number_at(line.data, start, bits, kind)
+        value = device.decimal_at(line.data, start, bits, kind)
         yield [line.time, f"{line.identifier:03X}", said.node, network.name(said.node), said.subject, entry, name, value]
         start += bits
 

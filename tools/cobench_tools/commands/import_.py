@@ -15,14 +15,15 @@ belong together. Of a file as cobench prints them each value becomes a `param`.
 
 The script has `version 3` where less is lost so: where a PDO is off that the data
 sheet has on, has a mapping that can't be written, or isn't the one that the plan
-would give, or where an RPDO has an event time (`receive`).
+would give, where an RPDO has an event time (`receive`), or where values or PDOs are
+of REAL32, REAL64 or integers of 24, 40, 48 or 56 bits.
 
 What a script can't say is reported as FILE:LINE: warning: a value of an entry that is
 read only, an RPDO whose sender is in none of the files, a mapping that fits to no
 value of the sender, an identifier that a node takes twice, as an RPDO stays on by its
 default, a key of the commissioning section but NodeID, NodeName and Baudrate. A value
-of a type that cobench doesn't model, as REAL32, stays in the data sheet, and so in
-the DCF; nodes have data sheets of their own where these values differ.
+of a type that cobench doesn't model, as UNICODE_STRING, stays in the data sheet, and
+so in the DCF; nodes have data sheets of their own where these values differ.
 
 Status: 0, or 2 where a file is no DCF, or cobench would
 refuse it; nothing is printed then.

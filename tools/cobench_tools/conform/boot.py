@@ -64,7 +64,11 @@ class Boot:
         self.node.tell(code, [self.node.number, *names(key)], text, spot.time, spot.line, notes)
 
     def _text(self, key, data):
-        return f"{self.judge.plan.entry(self.node.number, key)} := {shown(data)}"
+        return f"{self.judge.plan.entry(self.node.number, key)} := {self._shown(key, data)}"
+
+    def _shown(self, key, data):
+        """The value of an entry: a REAL as its number, any other by its bytes."""
+        return self.judge.plan.real(self.node.number, key, data) or shown(data)
 
     # What is written.
 
@@ -131,7 +135,7 @@ class Boot:
         self.other.add(place)
         key, data = self.writes[place]
         spot = Spot(spot.time, self.transfer.line_of(first_other(data, write[1])))
-        self._tell("sdo-value", key, f"{self._text(*write)}, and {shown(data)} is planned", spot, self._planned_at(key))
+        self._tell("sdo-value", key, f"{self._text(*write)}, and {self._shown(key, data)} is planned", spot, self._planned_at(key))
 
     def _planned_at(self, key):
         """The note that says where a write is planned."""

@@ -1,4 +1,6 @@
 """The bytes of PDOs beside those that they have in the planned run at the same time."""
+from ..data_types import REALS
+from ..device import object_name, value_at
 
 SLACK = 300
 
@@ -47,8 +49,16 @@ class Expected:
                               time, number)
                 return True
         if self.is_exact:
-            self.pdo.tell("pdo-value", f"it has {spaced(data)}, and {spaced(near[0])} is planned", time, number)
+            self.pdo.tell("pdo-value", f"it has {spaced(data)}, and {spaced(near[0])} is planned{self._reals(data, near[0])}", time, number)
         return self.is_exact
+
+    def _reals(self, found, planned):
+        """What that is in the REALs that differ, in words behind others."""
+        parts = [part for part in self.pdo.tpdo.parts if part.entry.kind in REALS]
+        pairs = [(part, *(value_at(bytes.fromhex(digits), part.start, part.bits, part.entry.kind) for digits in (found, planned)))
+                 for part in parts]
+        return "".join(f"; {object_name(part.key)} {part.entry.name}".rstrip() + f" is {one}, and {other} is planned"
+                       for part, one, other in pairs if one != other)
 
 
 def spaced(digits):

@@ -1,12 +1,12 @@
 """What a script plans for the bus: of each node its boot and its heartbeat, of each TPDO when it comes and with what."""
-from .. import concise, findings, matrix, trace, values
+from .. import concise, findings, matrix, reals, trace, values
+from ..data_types import REALS, SIGNED
 from ..evidence import Evidence
 from ..logs.rows import key_of
 from ..traffic import plain_bits
 from ..wiring import RPDO, TPDO, Wiring, pdo_of
 from . import keys
 
-UNSIGNED = {0x05: 1, 0x06: 2, 0x07: 4}
 IDENTITY = ((0x1000, 0), (0x1018, 1), (0x1018, 2), (0x1018, 3), (0x1018, 4))
 HEARTBEAT_TIME, WINDOW, COUNTER, ON_ERROR = (0x1017, 0), (0x1007, 0), (0x1019, 0), (0x1029, 1)
 PDO_OBJECTS = range(0x1400, 0x1C00)
@@ -18,7 +18,7 @@ class Limit:
     def __init__(self, part, key, name, low, high):
         self.part, self.key, self.name, self.low, self.high = part, key, name, low, high
         self.start, self.mask, self.bits = part.start, (1 << part.bits) - 1, part.bits
-        self.is_signed = part.entry.kind in values.SIGNED
+        self.is_signed = part.entry.kind in SIGNED
 
     def number(self, whole):
         """The number that the part has in the number of a frame."""
@@ -53,7 +53,7 @@ class PlannedNode:
 
     def _expected(self, key):
         entry = self.node.device.entries.get(key)
-        if not entry or entry.kind not in UNSIGNED:
+        if not entry or not entry.is_of_identity():
             return 0
         return int.from_bytes(values.default_of(entry, self.number), "little")
 
@@ -159,6 +159,12 @@ class Plan:
         if node in self.project.nodes:
             return self.evidence.entry_name(node, key)
         return f"{key[0]:04X}h:{key[1]:02X}"
+
+    def real(self, node, key, data):
+        """Bytes as the number of an entry that is a REAL, None where they are none of one."""
+        entry = self.evidence.device(node).entries.get(key) if node in self.project.nodes else None
+        is_real = entry and entry.is_modelled and data is not None and 8 * len(data) == REALS.get(entry.kind)
+        return reals.text_of(entry.kind, data) if is_real else None
 
     def taker(self, identifier):
         """Who takes frames of an identifier though nobody sends them, in words; None for nobody."""

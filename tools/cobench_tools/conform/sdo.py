@@ -155,7 +155,8 @@ class Talk:
         transfer, self.open = self.open, None
         code = int.from_bytes(data[4:], "little")
         what = meaning.ABORTS.get(code, "")
-        value = f" {transfer.data.hex(' ').upper()}" if transfer.kind == WRITE and transfer.data else ""
+        number = self.node.judge.plan.real(self.node.number, transfer.key, transfer.data)
+        value = f" {number or transfer.data.hex(' ').upper()}" if transfer.kind == WRITE and transfer.data else ""
         text = f"{who} aborts the {transfer.kind} of {self._entry(transfer)}{value}: {code:08X} {what}".rstrip()
         self.node.tell("sdo-abort", [self.node.number, *names(transfer.key), f"{code:08X}"], text, time, line,
                        [(transfer.line, "the request")])

@@ -6,7 +6,7 @@ import copy
 import functools
 import re
 
-from .. import acceptance, concise, device, findings, ini, judgement, matrix, pdo_values, safe_text, slips, taken_twice, tool
+from .. import acceptance, concise, device, findings, ini, judgement, matrix, pdo_values, real_limits, safe_text, slips, taken_twice, tool
 from ..evidence import Evidence
 from ..report import Report, json_of
 from ..script_order import ScriptOrder
@@ -139,7 +139,8 @@ class Answers:
         texts = answered.project.texts
         for name, lines in texts.items():
             texts[name] = self._texts[name] if self._texts.get(name) == lines else lines
-        kept = {name: sheet for name, sheet in self.sheets.items() if texts.get(name) is self._texts[name]}
+        kept = {name: sheet for name, sheet in self.sheets.items()
+                if texts.get(name) is self._texts[name] and sheet.version == answered.project.version}
         evidence = Evidence(answered, kept)
         self._texts, self.sheets = texts, {name: evidence.sheet(name) for name in texts}
         return evidence
@@ -150,7 +151,7 @@ class Answers:
         items.update(self.tables.take(answered, self.sheets, self.files))
         evidence.know(self.tables.nodes())
         self._found = findings.refused(answered) + findings.diagnosed(evidence) + findings.unused_values(evidence)
-        self._found += slips.of(evidence) + taken_twice.of(evidence) + self._faults.of(evidence)
+        self._found += slips.of(evidence) + taken_twice.of(evidence) + real_limits.of(evidence) + self._faults.of(evidence)
         return {**items, "wrong": self._wrong(answered)}
 
     def _wrong(self, answered):

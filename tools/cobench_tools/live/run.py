@@ -4,6 +4,7 @@ from typing import Any, Dict, Tuple
 
 from .. import boots, findings, meaning, receiver_names
 from ..boots import is_boot_up
+from ..data_types import WHOLE
 from ..picture import OTHERS, STATES, Sorts, event_flag, events_of, first_states, go_on, in_order, told_by_node
 from ..trace import has_stuff_bits
 from .drawing import TextDrawing
@@ -103,7 +104,8 @@ def stands_at(text, place, span):
 def words_of(project, devices):
     """What of a project the words of a trace depend on."""
     messages = sorted((name, each.node, each.tpdo) for name, each in project.messages.items())
-    return project.manager[0], project.nodes, project.texts, messages, receiver_names.of_project(project, devices)
+    has_all_types = project.version >= WHOLE
+    return project.manager[0], project.nodes, project.texts, has_all_types, messages, receiver_names.of_project(project, devices)
 
 
 NOTHING: Tuple[Dict[Any, Any], Dict[Any, Any]] = ({}, {})     # what a trace has told before its first line

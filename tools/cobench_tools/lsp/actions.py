@@ -3,7 +3,7 @@ from __future__ import annotations
 
 import re
 
-from ..device import BITS
+from ..data_types import are_unlike
 from ..load import Load
 from ..traffic import time_text
 from ..wiring import TPDO, pdo_numbers
@@ -76,7 +76,7 @@ def sources(asked, row, row_number):
     sink = state.evidence.device(taker).entries.get(key)
     known = state.evidence.device(message.node).entries.items()
     fitting = [(key, entry) for key, entry in sorted(known, key=first) if sink and entry.is_sent()
-               and BITS[entry.kind] == BITS.get(sink.kind)]
+               and entry.bits == sink.bits and not are_unlike(entry.kind, sink.kind)]
     end = {"line": row_number, "character": 0}
     for (index, sub), entry in fitting[:MOST_SOURCES]:
         text = f"source {row.words[1]} {number(row.words[2])} {index:04X} {sub}\n"

@@ -7,9 +7,11 @@ MEANINGS = {
         "wrong, or the EDS is of another device or firmware.",
         "Look the index and sub-index up in the manual of the device; take in the EDS of the firmware that it has."),
     "E16": (
-        "cobench doesn't model the entry's type, as REAL32, so the value isn't written. Where the EDS itself gives it, "
-        "its line stays in the DCF, but the concise DCF hasn't got it.",
-        "Take the parameter away, and set it with the vendor's tool or from the control program."),
+        "cobench doesn't model the entry's type, so the value isn't written: TIME_OF_DAY and others in every version, "
+        "REAL32, REAL64 and integers of 24 to 56 bits in versions 1 and 2. Where the EDS itself gives it, its line "
+        "stays in the DCF, but the concise DCF hasn't got it.",
+        "Begin the script with version 3 where its types are meant; else take the parameter away, and set it with the "
+        "vendor's tool or from the control program."),
     "E04": (
         "The device lets nobody write the entry: it would abort with 06010002h. Often a value that it measures or "
         "counts was taken for one that it is set to.",
@@ -17,15 +19,17 @@ MEANINGS = {
         "wrong: the diagnostic goes when that line does."),
     "E02": (
         "The text is no value of the entry's type: too large a number, a letter too many, a formula that fits at "
-        "another node only. The device keeps what it has.",
-        "Write the value as the type has it; the EDS says which type, and mostly in which unit."),
+        "another node only; of an integer a number with a point; of a REAL a hexadecimal number, a comma, a formula, "
+        "inf or nan, or a number beyond its largest. The device keeps what it has.",
+        "Write the value as the type has it; the EDS says which type, and mostly in which unit. A REAL is a decimal "
+        "number, as 0.5 or -1.25e-3."),
     "E02 default": (
-        "The EDS says nothing usable of the value with which the device starts. It is taken as 0 or as empty text "
-        "here, and the device may start with another.",
+        "The EDS says nothing usable of the value with which the device starts, as the default 0x3F800000 of a "
+        "REAL32. It is taken as 0 or as empty text here, and the device may start with another.",
         "Ask the vendor for a corrected EDS, or mend the line; set the entry by a parameter where its value matters."),
     "E03": (
         "The value is beyond what the vendor allows: the device would abort with 06090031h or 06090032h, and a "
-        "setting as a speed or a current isn't the one that was meant.",
+        "setting as a speed or a current isn't the one that was meant. The limits of a REAL aren't asked.",
         "Choose a value within the limits; if it is right, the EDS is of a smaller device."),
     "E05": (
         "The sender can't send this message: it has no such TPDO, its mapping can't be written or has too few places, "
@@ -45,8 +49,10 @@ MEANINGS = {
         "Or a node is to take a value from itself.",
         "Look up in the manual which entries can be mapped; read and write others by SDO."),
     "E09": (
-        "The receiver would read its value from bits that hold another, or none.",
-        "Let the sink name an entry as wide as its source, at the source's position."),
+        "The receiver would read its value from bits that hold another, or none; or, in version 3, the bits of a REAL "
+        "for a whole number, or those of a whole number for a REAL: 12.75 as 1,095,499,776.",
+        "Let the sink name an entry as wide as its source, at the source's position; of a REAL one of the same type. "
+        "Many devices have a value as REAL32 and as INTEGER32 too."),
     "E10": (
         "The receiver has no RPDO left for this message, or none with as many places, or its mapping is read only (a "
         "device with a fixed mapping): what it should act on would never arrive. In version 3 an RPDO with a fixed "

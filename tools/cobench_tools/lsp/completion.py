@@ -6,7 +6,7 @@ import os
 import re
 
 from .. import safe_text, values
-from ..device import BITS, BOOLEAN
+from ..data_types import BOOLEAN, are_unlike, type_name
 from ..forms import CHOICES, FORMS, usage
 from ..limits import LIMITS
 from ..meaning import SERVICES
@@ -244,19 +244,24 @@ def fitting(cursor):
     node = entries.node_of(cursor.row, cursor.project)
     if node is None:
         return
-    device, width = cursor.state.evidence.device(node), width_of_source(cursor)
+    device, source = cursor.state.evidence.device(node), source_of(cursor)
     for key in ((index, sub) for index, subs_of in device.subs.items() for sub in subs_of):
         entry = device.entries[key]
-        if entries.fits(cursor.row, entry, key) and (width is None or BITS.get(entry.kind) == width):
+        if entries.fits(cursor.row, entry, key) and (source is None or can_meet(source, entry)):
             yield key, entry
 
 
-def width_of_source(cursor):
-    """The bits of the source that a sink takes, None where that isn't known."""
+def can_meet(source, sink):
+    """Whether a sink can take what a source has."""
+    return source.bits == sink.bits and not are_unlike(source.kind, sink.kind)
+
+
+def source_of(cursor):
+    """The entry of the source that a sink takes, None where that isn't known."""
     message = cursor.project.messages.get(cursor.row.word("MESSAGE")) if cursor.name == "sink" else None
     key = message.sources.get(number(cursor.row.word("POS"))) if message else None
     entry = cursor.state.evidence.device(message.node).entries.get(key) if key else None
-    return BITS.get(entry.kind) if entry else None
+    return entry if entry and entry.bits else None
 
 
 def indexes(cursor):
@@ -295,9 +300,9 @@ def texts(cursor):
     known += watches(cursor, node) if key[0] == 0x1016 and key[1] else []
     seen = set()
     for text, what in known:
-        if text and text not in seen and values.data_of(entry.kind, text, node) is not None:
+        if text and text not in seen and entry.is_modelled and values.data_of(entry.kind, text, node) is not None:
             seen.add(text)
-            yield item(safe_text.readable(text), VALUE, f"{what} · {values.type_name(entry.kind)}")
+            yield item(safe_text.readable(text), VALUE, f"{what} · {type_name(entry.kind)}")
 
 
 def watches(cursor, node):

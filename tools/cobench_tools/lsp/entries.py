@@ -1,5 +1,6 @@
 """Objects of data sheets in the words of the editor: whose they are, what they are, and who sends or takes them."""
 from .. import safe_text, values
+from ..data_types import type_name
 from ..device import object_name
 from ..matrix import value_text
 from ..pdo_values import is_of_pdos
@@ -23,7 +24,7 @@ def key_of(row):
 
 def type_text(entry):
     """Type and access of an entry: `UNSIGNED16, rw`."""
-    return f"{values.type_name(entry.kind)}, {entry.access}"
+    return f"{type_name(entry.kind)}, {entry.access}"
 
 
 def limits_text(entry):
@@ -45,7 +46,7 @@ def fits(row, entry, key):
         return entry.is_taken()
     if is_of_pdos(key[0]):
         return row.name == "unparam"
-    return entry.kind in values.MODELLED and (row.name != "param" or entry.is_writable())
+    return entry.is_modelled and (row.name != "param" or entry.is_writable())
 
 
 def users(project, node, key):
@@ -76,6 +77,6 @@ def described(evidence, node, key):
     lines += [f"given by the data sheet: {mark(entry.value)}"] if entry.value else []
     ways = [each for each, can in (("sent", entry.is_sent()), ("taken", entry.is_taken())) if can]
     lines.append("PDO: " + (" and ".join(ways) or "can't be mapped"))
-    if entry.kind in values.MODELLED:
+    if entry.is_modelled:
         lines.append(f"at {evidence.node_name(node)} once it is configured: {mark(value_now(evidence, node, key))}")
     return "  \n".join(lines + users(evidence.project, node, key))

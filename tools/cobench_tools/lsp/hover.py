@@ -2,7 +2,7 @@
 from __future__ import annotations
 
 from .. import safe_text
-from ..device import BITS, object_name
+from ..device import object_name
 from ..forms import FORMS, usage
 from ..load import Analysis, most
 from ..matrix import when, within
@@ -142,7 +142,7 @@ def layout(message, state):
         takers = [f"{state.project.nodes[node][0]} {object_name(sink)}"
                   for (at, node), sink in sorted(message.sinks.items()) if at == place]
         name = safe_text.markdown(f"{object_name(key)} {entry.name}".rstrip())
-        end = start + BITS[entry.kind]
+        end = start + entry.bits
         lines.append(f"| {start} to {end - 1} | {name} | {safe_text.markdown(', '.join(takers) or 'nobody')} |")
         start = end
     return "\n".join(lines)

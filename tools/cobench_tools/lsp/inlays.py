@@ -36,7 +36,8 @@ def hints_of(server, state, row, number):
     end = row.spans[row.kinds.index("SUB")][1]
     found = [hint(row, number, end, entry.name)] if entry.name else []
     if server.options["values"] and "TEXT" in row.kinds:
-        data = values.data_of(entry.kind, row.rest_from(row.kinds.index("TEXT")), node)
+        text = row.rest_from(row.kinds.index("TEXT"))
+        data = values.data_of(entry.kind, text, node) if entry.is_modelled else None
         found += [hint(row, number, row.spans[-1][1], f"= {value_text(entry.kind, data)}")] if data is not None else []
     return found
 

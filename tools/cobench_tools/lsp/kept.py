@@ -1,7 +1,7 @@
 """A cobench that is kept for an open script: each state of the script goes to it as the edits that make it."""
 import functools
 
-from .. import findings, hints, judgement, session, slips, tool
+from .. import findings, hints, judgement, real_limits, session, slips, tool
 from ..live.answers import Answers
 from ..live.children import Children
 from ..live.kept_faults import KeptFaults
@@ -30,7 +30,8 @@ class State:
         self.reading, self.answered, self.evidence = reading, answered, evidence
         self.project = answered.project
         self.refusals = hints.refusals(answered.pairs)
-        self.found = findings.diagnosed(evidence) + findings.unused_values(evidence) + slips.of(evidence) + faults
+        self.found = findings.diagnosed(evidence) + findings.unused_values(evidence) + slips.of(evidence)
+        self.found += real_limits.of(evidence) + faults
         self.run_found, self.boots, self.run, self.network = [], None, None, None
 
     def take_run(self, run, text):

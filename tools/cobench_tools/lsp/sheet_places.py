@@ -2,6 +2,7 @@
 import re
 
 from .. import safe_text
+from ..data_types import WHOLE
 from ..device import Device, object_name
 from . import entries
 from .paths import key_of
@@ -41,7 +42,7 @@ def hover(asked):
     nodes = [number for number in sorted(asked.state.project.nodes) if takes(asked, number)] if asked.state else []
     if nodes:
         return "\n\n".join(entries.described(asked.state.evidence, number, key) for number in nodes[:4])
-    entry = Device([bare(row).encode("utf-8", "surrogatepass") for row in asked.rows]).entries.get(key)
+    entry = Device([bare(row).encode("utf-8", "surrogatepass") for row in asked.rows], WHOLE).entries.get(key)
     return f"**{object_name(key)} {safe_text.markdown(entry.name)}**  \n{entries.type_text(entry)}" if entry else None
 
 

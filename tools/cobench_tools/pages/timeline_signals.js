@@ -21,7 +21,7 @@ function addSignal(found, trace, sort, number, part) {
   const lane = trace.lanes[sort.lane], key = `${lane.key} ${sort.text[0]} ${part.label}`, unit = part.label.match(UNIT);
   if (!found.has(key)) {
     found.set(key, { key, lane: sort.lane, subject: sort.text[0], label: part.label.replace(UNIT, ""),
-      planned: lane.planned, unit: unit ? unit[1] : "", isHexadecimal: part.form === "unsigned", parts: new Map() });
+      planned: lane.planned, unit: unit ? unit[1] : "", isHexadecimal: part.form === "unsigned", realBits: part.form === "real" ? part.bits : 0, parts: new Map() });
   }
   found.get(key).parts.set(number, part);
 }
@@ -35,12 +35,14 @@ function pointsOf(trace, signal) {
     time.push(trace.time[frame]);
     value.push(numberAt(trace.bytes(frame), part));
   }
-  return { time, value, least: value.reduce((a, b) => Math.min(a, b), Infinity), most: value.reduce((a, b) => Math.max(a, b), -Infinity) };
+  const finite = value.filter(Number.isFinite);
+  return { time, value, least: finite.reduce((a, b) => Math.min(a, b), Infinity), most: finite.reduce((a, b) => Math.max(a, b), -Infinity) };
 }
 
 /** The number that a part of a PDO has. */
 function numberAt(bytes, { start, bits, form }) {
   const value = littleEndian(bytes) >> BigInt(start) & (1n << BigInt(bits)) - 1n;
+  if (form === "real") return realOf(value, bits);
   return Number(form === "signed" ? BigInt.asIntN(bits, value) : form === "bit" ? value & 1n : value);
 }
 
@@ -50,7 +52,8 @@ function signalAt(signal, time) {
   return place < 0 ? null : signal.points.value[place];
 }
 
-const withUnit = (value, unit) => counted(value) + (unit ? " " + unit : "");
+/** A value of a signal with its unit. */
+const withUnit = (value, { realBits, unit }) => (realBits ? realText(value, realBits) : counted(value)) + (unit ? " " + unit : "");
 
 /** The lane of a signal. */
 function signalLane(trace, signal, number) {
@@ -58,7 +61,7 @@ function signalLane(trace, signal, number) {
     kinds: [], states: [], flags: [], flagTimes: [], trouble: 0 };
 }
 
-/** Draws the values as steps: each holds until the next frame. */
+/** Draws the values as steps: each holds until the next frame; where one is no finite number, nothing is drawn. */
 function drawSignal(pen, view, lane) {
   const { scale, colours } = view, { time, value, least, most } = lane.signal.points, x = scale.x;
   const top = lane.top + SIGNAL_PAD, high = lane.height - 2 * SIGNAL_PAD, span = most - least || 1;
@@ -72,20 +75,21 @@ function drawSignal(pen, view, lane) {
   for (let place = first; place < time.length; place++) {
     const from = Math.max(x(time[place]), 0), to = place + 1 < time.length ? Math.min(x(time[place + 1]), end) : end;
     if (x(time[place]) > scale.right) break;
-    if (place === first) pen.moveTo(from, y(value[place])); else pen.lineTo(from, y(value[place]));
+    if (!Number.isFinite(value[place])) continue;
+    if (place === first || !Number.isFinite(value[place - 1])) pen.moveTo(from, y(value[place])); else pen.lineTo(from, y(value[place]));
     pen.lineTo(Math.max(from, to), y(value[place]));
   }
   pen.stroke();
-  if (!time.length) return;
+  if (least > most) return;
   for (const [number, at] of most === least ? [[most, y(most) - 8]] : [[most, top - 7], [least, top + high + 7]])
-    write(pen, withUnit(number, lane.signal.unit), 4, at, colours.soft, 10);
+    write(pen, withUnit(number, lane.signal), 4, at, colours.soft, 10);
 }
 
 function tellSignal(view, lane, time) {
   const { signal } = lane, value = signalAt(signal, time);
   if (value === null || time > view.trace.end) return null;
   const place = firstAt(signal.points.time, time + .5) - 1, hold = signal.points.time[place];
-  return { time, lane: lane.number, colour: "pdo", head: `${shownTime(Math.round(time))} · ${signal.subject}`, words: `${signal.label} = ${withUnit(value, signal.unit)}`,
+  return { time, lane: lane.number, colour: "pdo", head: `${shownTime(Math.round(time))} · ${signal.subject}`, words: `${signal.label} = ${withUnit(value, signal)}`,
     values: [`since ${shownTime(hold)}`], code: signal.isHexadecimal && value >= 0 ? hexadecimal(value, 2) + "h" : "" };
 }
 

@@ -20,9 +20,37 @@ const hexadecimal = (number, digits) => number.toString(16).toUpperCase().padSta
 /** The number that a text of bytes in hexadecimal digits has, the lowest byte first. */
 const littleEndian = bytes => BigInt("0x0" + (bytes.match(/../g) || []).reverse().join(""));
 
-/** The bits of a frame from `start` on as a value: an unsigned number, a signed one, or one bit. */
+/** The number that 32 or 64 bits are by IEEE 754. */
+function realOf(value, bits) {
+  const view = new DataView(new ArrayBuffer(8));
+  view.setBigUint64(0, value);
+  return bits === 32 ? view.getFloat32(4) : view.getFloat64(0);
+}
+
+/** The shortest decimal number that reads back as a number of so many bits, as `reals.text_of` has it. */
+function realText(number, bits) {
+  if (Number.isNaN(number)) return "NaN";
+  if (!Number.isFinite(number)) return number < 0 ? "-inf" : "inf";
+  if (Object.is(number, -0)) return "-0";
+  const text = bits === 32 && number ? shortest(number) : number.toExponential(), exponent = Number(text.split("e")[1]);
+  if (exponent >= -4 && exponent < 16) return String(Number(text));
+  return text.replace(/(e[+-])(\d)$/, (_, sign, digit) => sign + "0" + digit);
+}
+
+/** A number of 32 bits with the fewest digits by which it reads back; the next one away from 0 may, where the nearest one doesn't. */
+function shortest(number) {
+  for (let digits = 0; digits < 8; digits++) {
+    const near = number.toExponential(digits), step = Math.sign(number) * 10 ** (Number(near.split("e")[1]) - digits);
+    const found = [near, (Number(near) + step).toExponential(digits)].find(each => Math.fround(Number(each)) === number);
+    if (found) return found;
+  }
+  return number.toExponential(8);
+}
+
+/** The bits of a frame from `start` on as a value: an unsigned number, a signed one, one bit, or a real number. */
 function valueAt(number, start, bits, form) {
   const value = number >> BigInt(start) & (1n << BigInt(bits)) - 1n;
+  if (form === "real") return realText(realOf(value, bits), bits);
   if (form === "signed") return BigInt.asIntN(bits, value).toString();
   if (form === "bit") return (value & 1n).toString();
   return hexadecimal(value, 2 * Math.ceil(bits / 8)) + "h";

@@ -1,7 +1,8 @@
 """Reads an entry of a device."""
 import argparse
 
-from ... import tool, values
+from ... import tool
+from ...data_types import type_name
 from .. import connection, known, sdo_block, timing, value
 from ..progress import Progress
 from ..sdo_client import SdoClient
@@ -37,5 +38,5 @@ def run(options: argparse.Namespace) -> int:
             tool.say(f"{node.name}: {node.entry_name(key)}: {why.text}")
             return tool.FOUND
     text = value.text_of(kind, data)
-    tool.put(f"{node.name}: {node.entry_name(key)} = {text}" + (f" {values.type_name(kind)}" if kind else "") + "\n")
+    tool.put(f"{node.name}: {node.entry_name(key)} = {text}" + (f" {type_name(kind)}" if kind else "") + "\n")
     return tool.DONE

@@ -43,7 +43,7 @@ class Plan:
         if options.script:
             project = session.run(options.script, options.cobench, (), known.edits_of).project
             self.nodes, self.bitrate, self.manager = project.nodes, project.bitrate, project.manager[0]
-            self.sheets = {name: Device(lines) for name, lines in project.texts.items()}
+            self.sheets = {name: Device(lines, project.version) for name, lines in project.texts.items()}
 
     def is_there(self) -> bool:
         return self.bitrate is not None

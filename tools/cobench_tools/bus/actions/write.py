@@ -3,6 +3,7 @@ import argparse
 from typing import List, Tuple
 
 from ... import tool, values
+from ...data_types import SIGNED
 from .. import asked, connection, known, neighbours, sdo_block, timing, value
 from ..progress import Progress
 from ..sdo_client import SdoClient
@@ -46,7 +47,7 @@ def faults_of(node: known.Known, key: Key, kind: int, data: bytes) -> List[str]:
         return [f"{name}: the data sheet {node.eds} has no such entry"]
     faults = [] if entry.is_writable() else [f"{name}: its access is {entry.access}"]
     low, high = values.limits_of(entry, node.number)
-    number = int.from_bytes(data, "little", signed=kind in values.SIGNED)
+    number = int.from_bytes(data, "little", signed=kind in SIGNED)
     if low is not None and number < low:
         faults.append(f"{name}: {number} is below its low limit, {low}")
     if high is not None and number > high:

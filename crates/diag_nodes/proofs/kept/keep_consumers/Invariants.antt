@@ -5,5 +5,5 @@ use Rattle.diag_nodes.proofs.kept.keep_consumers.Given as goal
 
 abbrev pub invariant-loop-index : goal.invariant-loop-index
 invariant-loop-index l = l.consumers.items
-    ≡ l.fn.consumers.items ++ filter_map (consumer_of (number_among l.device.sections l.values) l.id)
+    ≡ l.fn.consumers.items ++ filter_map (consumer_of (number_among l.device l.values) l.id)
     (take l.index-index l.index-items)

@@ -5,5 +5,5 @@ use Rattle.diag_nodes.proofs.kept.keep_identifiers.Given as goal
 
 abbrev pub invariant-loop-index : goal.invariant-loop-index
 invariant-loop-index l = l.identifiers.items
-    ≡ l.fn.identifiers.items ++ filter_map (identifier_at (number_among l.device.sections l.values))
+    ≡ l.fn.identifiers.items ++ filter_map (identifier_at (number_among l.device l.values))
     (take l.index-index l.index-items)

@@ -10,18 +10,18 @@ use Rattle.eds_dcf.proofs.compact.put_made.Goals as goal
 
 pub returns-then-not-may_have : goal.returns-then-not-may_have
 returns-then-not-may_have c =
-    nothing_more _ _ (none_made c.args.device.now.sections (get c.args.values.now) c.args.index (λ sub.
+    nothing_more _ _ (none_made c.args.device.now (get c.args.values.now) c.args.index (λ sub.
     c.may_have.ensures c.if-not-may_have.true c.args.index sub refl))
 
 pub returns-then-is_some : goal.returns-then-is_some
 returns-then-is_some c =
-    nothing_more _ _ (not_made_beside c.args.device.now.sections (get c.args.values.now) c.args.index
+    nothing_more _ _ (not_made_beside c.args.device.now (get c.args.values.now) c.args.index
     (sym (ap is_some c.values_section.ensures) ∙ is_some_copied c.values_section.result ∙ sym c.is_some.ensures
     ∙ c.if-is_some.true))
 
 pub returns-in_default : goal.returns-in_default
 returns-in_default c =
-    nothing_more _ _ (not_made_of_others c.args.device.now.sections (get c.args.values.now) c.args.index
+    nothing_more _ _ (not_made_of_others c.args.device.now (get c.args.values.now) c.args.index
     (sym (ap is_some c.values_section.ensures) ∙ is_some_copied c.values_section.result ∙ sym c.is_some.ensures
     ∙ c.if-is_some.false)
     (sym c.compact_object.ensures ∙ ap (option_map (λ object. (object.0.now, object.1))) c.in_default.is))
@@ -32,7 +32,7 @@ returns c =
     ∙ ap (λ set. c.args.out.now.items ++ flat_map section_text (option_to_list (new_values c.args.index set)))
     (c.as_slice.ensures.value ∙ c.in_ok-set.ensures)
     ∙ ap (λ o. c.args.out.now.items ++ flat_map section_text (option_to_list o))
-    (made_of_compact c.args.device.now.sections (get c.args.values.now) c.args.index c.in-Some.field-0-0.now
+    (made_of_compact c.args.device.now (get c.args.values.now) c.args.index c.in-Some.field-0-0.now
     c.in-Some.highest
     (sym (ap is_some c.values_section.ensures) ∙ is_some_copied c.values_section.result ∙ sym c.is_some.ensures
     ∙ c.if-is_some.false)

@@ -6,7 +6,7 @@ use Rattle.eds_dcf.proofs.compact.values_set.Goals as goal
 
 pub loop-sub-preserved : goal.loop-sub-preserved
 loop-sub-preserved c =
-    set_more (value_pair c.args.device.now.sections (get c.args.values.now)) c.args.index c.loop-sub.sub _ _ _
+    set_more (value_pair c.args.device.now (get c.args.values.now)) c.args.index c.loop-sub.sub _ _ _
     c.loop-sub.invariant c.in_ok-value_setting.ensures c.in_ok-push_some.ensures
 
 pub returns : goal.returns

@@ -5,4 +5,4 @@ use Rattle.eds_dcf.specs.Compact.{value_pair}
 use Rattle.eds_dcf.proofs.compact.values_set.Given as goal
 
 abbrev pub invariant-loop-sub : goal.invariant-loop-sub
-invariant-loop-sub l = l.set.items ≡ filter_map (value_pair l.device.sections (get l.values)) (first_subs l.index l.sub)
+invariant-loop-sub l = l.set.items ≡ filter_map (value_pair l.device (get l.values)) (first_subs l.index l.sub)

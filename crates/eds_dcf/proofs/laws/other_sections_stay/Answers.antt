@@ -3,4 +3,4 @@ use Rattle.eds_dcf.proofs.LawLemmas.{section_stays}
 use Rattle.eds_dcf.proofs.laws.other_sections_stay.Goals as goal
 
 pub returns : goal.returns
-returns c = λ ss writes s none unnamed. section_stays ss (last_of writes) s none unnamed
+returns c = λ sheet writes s none unnamed. section_stays sheet (last_of writes) s none unnamed

@@ -2,5 +2,6 @@ use Rattle.eds_dcf.proofs.WholeLemmas.{dcf_counted}
 use Rattle.eds_dcf.proofs.laws.values_are_counted.Goals as goal
 
 pub returns : goal.returns
-returns c = λ ss node name bitrate writes section index there named. dcf_counted ss node name bitrate writes section
-    there index named
+returns c =
+    λ sheet node name bitrate writes section index there named.
+    dcf_counted sheet node name bitrate writes section there index named

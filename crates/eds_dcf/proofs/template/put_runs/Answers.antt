@@ -11,60 +11,62 @@ nameless : Section
 nameless = record { name = []; pairs = [] }
 
 pub loop-position-init : goal.loop-position-init
-loop-position-init c = run_begun (piece c.args.device.now.sections no_values)
-    (piece c.args.device.now.sections (get c.args.values.now)) c.args.device.now.sections c.args.out.now.items
+loop-position-init c = run_begun (piece c.args.device.now no_values)
+    (piece c.args.device.now (get c.args.values.now)) c.args.device.now.sections c.args.out.now.items
     c.reserve.new.self.items c.reserve.ensures.items
 
 pub overflow_add-end : goal.overflow_add-end
 overflow_add-end c =
-    let ss = c.args.device.now.sections in
+    let sheet = c.args.device.now in
     let i = c.loop-position.position in
     let known : Option ℕ × ℕ = (None, 0) in
-    let size = ap (λ (r : Option ℕ × ℕ). r.1) (room_at ss c.args.rooms.now i nameless known c.requires.template.0
+    let size = ap (λ (r : Option ℕ × ℕ). r.1) (room_at sheet c.args.rooms.now i nameless known c.requires.template.0
     c.loop-position-test.true) in
-    let within = run_within (piece ss no_values) (piece ss (get c.args.values.now)) ss c.args.out.now.items
+    let within = run_within (piece sheet no_values) (piece sheet (get c.args.values.now)) sheet.sections
+    c.args.out.now.items
     c.loop-position.out.items c.args.text.now i c.loop-position.from c.loop-position.end nameless
-    (room_within ss c.args.rooms.now i nameless known c.requires.template.0 c.loop-position-test.true)
+    (room_within sheet c.args.rooms.now i nameless known c.requires.template.0 c.loop-position-test.true)
     c.requires.template.1 c.loop-position.invariant in
     record { fits = first_of (omega (arith, size, within), omega (arith, size, within, c.in_ok-reserve.ensures.ok)) }
 
 pub slice_bounds-extend_from_slice-end : goal.slice_bounds-extend_from_slice-end
 slice_bounds-extend_from_slice-end c =
-    let ss = c.args.device.now.sections in
+    let sheet = c.args.device.now in
     let i = c.loop-position.position in
     let known : Option ℕ × ℕ = (None, 0) in
-    let within = run_within (piece ss no_values) (piece ss (get c.args.values.now)) ss c.args.out.now.items
+    let within = run_within (piece sheet no_values) (piece sheet (get c.args.values.now)) sheet.sections
+    c.args.out.now.items
     c.loop-position.out.items c.args.text.now i c.loop-position.from c.loop-position.end nameless
-    (room_within ss c.args.rooms.now i nameless known c.requires.template.0 c.loop-position-test.true)
+    (room_within sheet c.args.rooms.now i nameless known c.requires.template.0 c.loop-position-test.true)
     c.requires.template.1 c.loop-position.invariant in
     omega (arith, within)
 
 pub loop-position-preserved : goal.loop-position-preserved
 loop-position-preserved c =
-    let ss = c.args.device.now.sections in
+    let sheet = c.args.device.now in
     let rooms = c.args.rooms.now in
     let i = c.loop-position.position in
     let known : Option ℕ × ℕ = (None, 0) in
-    let within = room_within ss rooms i nameless known c.requires.template.0 c.loop-position-test.true in
+    let within = room_within sheet rooms i nameless known c.requires.template.0 c.loop-position-test.true in
     elim c.if-may_have.branch [
-      | then-may_have+in_ok-extend_from_slice+in_ok-near w ↦ run_written (piece ss no_values)
-          (piece ss (get c.args.values.now)) ss c.args.out.now.items c.loop-position.out.items
+      | then-may_have+in_ok-extend_from_slice+in_ok-near w ↦ run_written (piece sheet no_values)
+          (piece sheet (get c.args.values.now)) sheet.sections c.args.out.now.items c.loop-position.out.items
           w.extend_from_slice.new.self.items c.if-may_have.out.items c.args.text.now i c.loop-position.from
           c.loop-position.end c.if-may_have.from w.index-sections-position.result (get_or rooms i known).1 within
           (w.index-sections-position.is ∙ ap (λ (xs : List Section). get_or xs i w.index-sections-position.result)
           c.sections-sections.ensures)
           c.requires.template.1 w.in_ok-extend_from_slice.ensures.items
           (ap (λ v. v.items) w.out-is ∙ w.in_ok-near.ensures)
-          (ap (λ (r : Option ℕ × ℕ). r.1) (room_at ss rooms i w.index-sections-position.result known
+          (ap (λ (r : Option ℕ × ℕ). r.1) (room_at sheet rooms i w.index-sections-position.result known
           c.requires.template.0 c.loop-position-test.true))
           w.from-is c.loop-position.invariant
-      | else-may_have w ↦ run_passed (piece ss no_values)
-          (piece ss (get c.args.values.now)) ss c.args.out.now.items c.loop-position.out.items
+      | else-may_have w ↦ run_passed (piece sheet no_values)
+          (piece sheet (get c.args.values.now)) sheet.sections c.args.out.now.items c.loop-position.out.items
           c.if-may_have.out.items i c.loop-position.from c.loop-position.end c.if-may_have.from nameless
           (get_or rooms i known).1 within
-          (ap (λ (r : Option ℕ × ℕ). r.1) (room_at ss rooms i nameless known c.requires.template.0
+          (ap (λ (r : Option ℕ × ℕ). r.1) (room_at sheet rooms i nameless known c.requires.template.0
           c.loop-position-test.true))
-          (same_there ss rooms i nameless known c.requires.template.0 c.loop-position-test.true
+          (same_there sheet rooms i nameless known c.requires.template.0 c.loop-position-test.true
           (get c.args.values.now) (c.may_have.ensures w.if-may_have.false))
           (ap (λ v. v.items) w.out-is) w.from-is c.loop-position.invariant
     ]

@@ -7,7 +7,7 @@ use Rattle.eds_dcf.proofs.text.put_all_made.Goals.{then-sub-eq0+in_ok-put_made, 
 
 pub loop-index-preserved : goal.loop-index-preserved
 loop-index-preserved c =
-    let h = made_section c.args.device.now.sections (get c.args.values.now) in
+    let h = made_section c.args.device.now (get c.args.values.now) in
     let place : ℕ × ℕ = get_or c.pairs-index-items.result.now c.loop-index.index-index (0, 0) in
     made_more h c.pairs-index-items.result.now c.loop-index.index-index (
       0,
@@ -22,5 +22,5 @@ loop-index-preserved c =
 
 pub returns : goal.returns
 returns c =
-    made_whole c.args.device.now.sections (get c.args.values.now) c.pairs-index-items.result.now
+    made_whole c.args.device.now (get c.args.values.now) c.pairs-index-items.result.now
     c.loop-index.index-index _ _ c.pairs-index-items.ensures.pairs c.loop-index-test.false c.loop-index.invariant

@@ -7,5 +7,5 @@ use Rattle.eds_dcf.proofs.text.put_all_made.Given as goal
 
 abbrev pub invariant-loop-index : goal.invariant-loop-index
 invariant-loop-index l =
-    l.out.items ≡ l.fn.out.items ++ text_of (filter_map (at_first (made_section l.device.sections (get l.values)))
+    l.out.items ≡ l.fn.out.items ++ text_of (filter_map (at_first (made_section l.device (get l.values)))
     (take l.index-index l.index-items))

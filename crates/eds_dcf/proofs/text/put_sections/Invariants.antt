@@ -6,5 +6,5 @@ use Rattle.eds_dcf.proofs.text.put_sections.Given as goal
 
 abbrev pub invariant-loop-section : goal.invariant-loop-section
 invariant-loop-section l =
-    l.out.items ≡ l.fn.out.items ++ flat_map (piece l.device.sections (get l.values))
+    l.out.items ≡ l.fn.out.items ++ flat_map (piece l.device (get l.values))
     (take l.section-index l.section-items)

@@ -13,7 +13,7 @@ use Rattle.eds_dcf.proofs.text.put_with_values.Goals as goal
 
 pub returns-then-is_commissioning : goal.returns-then-is_commissioning
 returns-then-is_commissioning c =
-    piece_of_node c.args.device.now.sections (get c.args.values.now) c.args.section.now _
+    piece_of_node c.args.device.now (get c.args.values.now) c.args.section.now _
     (ap is_commissioning (sym c.name.ensures) ∙ sym c.is_commissioning.ensures ∙ c.if-is_commissioning.true)
 
 pub put_entry-requires : goal.put_entry-requires
@@ -29,11 +29,11 @@ returns-in-Some c =
     c.in_ok-put_entry.ensures
     ∙ ap (λ (pairs : List Pair). c.args.out.now.items
     ++ section_text (record { name = c.args.section.now.name; pairs = pairs }))
-    (with_parameter c.args.device.now.sections (get c.args.values.now) c.args.section.now place
+    (with_parameter c.args.device.now (get c.args.values.now) c.args.section.now place
     c.in-Some.parameter.kind _
-    (sym (ap (parameter_place c.args.device.now.sections) c.name-2.ensures) ∙ sym c.in-Some.ensures.place)
+    (sym (ap (parameter_place c.args.device.now) c.name-2.ensures) ∙ sym c.in-Some.ensures.place)
     c.in-Some.ensures.kind c.read-value.ensures.value)
-    ∙ ap (λ t. c.args.out.now.items ++ t) (piece_is c.args.device.now.sections (get c.args.values.now)
+    ∙ ap (λ t. c.args.out.now.items ++ t) (piece_is c.args.device.now (get c.args.values.now)
     c.args.section.now (ap is_commissioning (sym c.name.ensures) ∙ sym c.is_commissioning.ensures
     ∙ c.if-is_commissioning.false))
 
@@ -42,10 +42,10 @@ returns-in-Some-values_named c =
     c.in_ok-put_values_section.ensures
     ∙ ap (λ (pairs : List Pair). c.args.out.now.items
     ++ section_text (record { name = c.args.section.now.name; pairs = pairs }))
-    (with_compact c.args.device.now.sections (get c.args.values.now) c.args.section.now c.in-Some-values_named.index
-    (sym (ap (parameter_place c.args.device.now.sections) c.name-2.ensures) ∙ sym c.in_default.ensures.place)
+    (with_compact c.args.device.now (get c.args.values.now) c.args.section.now c.in-Some-values_named.index
+    (sym (ap (parameter_place c.args.device.now) c.name-2.ensures) ∙ sym c.in_default.ensures.place)
     (sym (ap values_named c.name-3.ensures) ∙ sym c.values_named.ensures ∙ c.in-Some-values_named.is))
-    ∙ ap (λ t. c.args.out.now.items ++ t) (piece_is c.args.device.now.sections (get c.args.values.now)
+    ∙ ap (λ t. c.args.out.now.items ++ t) (piece_is c.args.device.now (get c.args.values.now)
     c.args.section.now (ap is_commissioning (sym c.name.ensures) ∙ sym c.is_commissioning.ensures
     ∙ c.if-is_commissioning.false))
 
@@ -54,9 +54,9 @@ returns c =
     c.in_ok-put_section.ensures
     ∙ ap (λ (pairs : List Pair). c.args.out.now.items
     ++ section_text (record { name = c.args.section.now.name; pairs = pairs }))
-    (with_none c.args.device.now.sections (get c.args.values.now) c.args.section.now
-    (sym (ap (parameter_place c.args.device.now.sections) c.name-2.ensures) ∙ sym c.in_default.ensures.place)
+    (with_none c.args.device.now (get c.args.values.now) c.args.section.now
+    (sym (ap (parameter_place c.args.device.now) c.name-2.ensures) ∙ sym c.in_default.ensures.place)
     (sym (ap values_named c.name-3.ensures) ∙ sym c.values_named.ensures ∙ c.in_default-values_named.is))
-    ∙ ap (λ t. c.args.out.now.items ++ t) (piece_is c.args.device.now.sections (get c.args.values.now)
+    ∙ ap (λ t. c.args.out.now.items ++ t) (piece_is c.args.device.now (get c.args.values.now)
     c.args.section.now (ap is_commissioning (sym c.name.ensures) ∙ sym c.is_commissioning.ensures
     ∙ c.if-is_commissioning.false))

@@ -18,21 +18,21 @@ parameter_write-requires c =
 
 pub returns-clause-sizes : goal.returns-clause-sizes
 returns-clause-sizes c =
-    let all = all_taken c.args.device.now.sections c.args.params.now c.args.node c.loop-position.writes.items
+    let all = all_taken c.args.device.now c.args.params.now c.args.node c.loop-position.writes.items
     c.pairs-places.result.now c.loop-position.position c.loop-position.invariant.0
     c.pairs-places.ensures.pairs (omega arith) in
     subst (λ (ws : List Write). All (λ w. (1 ≤ length w.bytes) × (length w.bytes ≤ 512)) ws) (sym all)
-    (writes_sized c.args.device.now.sections c.args.params.now c.args.node)
+    (writes_sized c.args.device.now c.args.params.now c.args.node)
 
 pub returns-clause-count : goal.returns-clause-count
 returns-clause-count c =
-    let all = all_taken c.args.device.now.sections c.args.params.now c.args.node c.loop-position.writes.items
+    let all = all_taken c.args.device.now c.args.params.now c.args.node c.loop-position.writes.items
     c.pairs-places.result.now c.loop-position.position c.loop-position.invariant.0
     c.pairs-places.ensures.pairs (omega arith) in
     omega (
       arith,
       ap (λ (ws : List Write). length ws) all,
-      writes_few c.args.device.now.sections c.args.params.now c.args.node,
+      writes_few c.args.device.now c.args.params.now c.args.node,
       ap length c.pairs-places.ensures.pairs,
       c.pairs-places.ensures.bound,
     )

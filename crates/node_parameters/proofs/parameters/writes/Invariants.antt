@@ -8,5 +8,5 @@ use Rattle.node_parameters.proofs.parameters.writes.Given as goal
 -- the writes of the entries so far, each a value of its entry
 abbrev pub invariant-loop-position : goal.invariant-loop-position
 invariant-loop-position l =
-    (l.writes.items ≡ filter_map (parameter_write l.device.sections l.params l.node) (take l.position l.places))
-    × All (λ w. Fits (kind_at l.device.sections (w.index, w.sub)) w.bytes) l.writes.items
+    (l.writes.items ≡ filter_map (parameter_write l.device l.params l.node) (take l.position l.places))
+    × All (λ w. Fits (kind_at l.device (w.index, w.sub)) w.bytes) l.writes.items

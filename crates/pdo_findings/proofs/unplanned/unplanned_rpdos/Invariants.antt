@@ -1,7 +1,13 @@
-use Rattle.std.proofs.Common.{[]}
+use Rattle.std.proofs.Common.{◌-◌, ◌≤◌, []}
 use Rattle.pdo_findings.specs.Findings.{unplanned_rpdo}
 use Rattle.pdo_links.proofs.NumberLemmas.{IsOfAll}
 use Rattle.pdo_findings.proofs.unplanned.unplanned_rpdos.Given as goal
 
-abbrev pub invariant-loop-number : goal.invariant-loop-number
-invariant-loop-number l = IsOfAll (unplanned_rpdo l.plan l.device l.node) [] l.found.items l.number
+abbrev pub invariant-numbers : goal.invariant-numbers
+invariant-numbers l = record {
+  high : l.number ≤ 513;
+  all : IsOfAll (unplanned_rpdo l.plan l.device l.node) [] l.found.items l.number;
+}
+
+abbrev pub decreases-numbers : goal.decreases-numbers
+decreases-numbers l = 513 - l.number

@@ -7,8 +7,8 @@ use Rattle.pdo_links.proofs.links.put_set_links.Goals as goal
 pub returns-clause-fits : goal.returns-clause-fits
 unfolding set_link_writes
 returns-clause-fits c = λ made.
-    both_values c.args.device.now.sections _ _ (c.in_ok-put_tpdos.ensures.fits made)
-    (c.in_ok-put_rpdos.ensures.fits c.args.device.now.sections made)
+    both_values c.args.device.now _ _ (c.in_ok-put_tpdos.ensures.fits made)
+    (c.in_ok-put_rpdos.ensures.fits c.args.device.now made)
 
 pub returns-clause-sizes : goal.returns-clause-sizes
 unfolding set_link_writes

@@ -22,7 +22,7 @@ few_both tpdos rpdos a b =
 pub returns-clause-writes : goal.returns-clause-writes
 unfolding vendor_link_writes
 returns-clause-writes c =
-    let made : AsMade = as_made c.args.device.now.sections c.args.node in
+    let made : AsMade = as_made c.args.device.now c.args.node in
     joined c.args.writes.now.items _ _ c.put_vendor_tpdos.new.writes.items c.put_vendor_rpdos.new.writes.items
     (rw c.in_ok-made.ensures at c.in_ok-put_vendor_tpdos.ensures.writes)
     (rw c.in_ok-made.ensures at c.in_ok-put_vendor_rpdos.ensures.writes)
@@ -30,10 +30,10 @@ returns-clause-writes c =
 pub returns-clause-fits : goal.returns-clause-fits
 unfolding vendor_link_writes
 returns-clause-fits c =
-    both_values c.args.device.now.sections _ _
-    (rw c.in_ok-made.ensures at (c.in_ok-put_vendor_tpdos.ensures.fits c.args.device.now.sections c.args.node
+    both_values c.args.device.now _ _
+    (rw c.in_ok-made.ensures at (c.in_ok-put_vendor_tpdos.ensures.fits c.args.device.now c.args.node
     c.in_ok-made.ensures))
-    (rw c.in_ok-made.ensures at (c.in_ok-put_vendor_rpdos.ensures.fits c.args.device.now.sections c.args.node
+    (rw c.in_ok-made.ensures at (c.in_ok-put_vendor_rpdos.ensures.fits c.args.device.now c.args.node
     c.in_ok-made.ensures))
 
 pub returns-clause-sizes : goal.returns-clause-sizes

@@ -64,7 +64,7 @@ pdos-init c =
     record {
       written = ap (λ (ws : List Write). c.args.writes.now.items ++ ws) left;
       taken = subst (All (IsTaken cs node)) (sym is) taken;
-      fits = λ ss made v. subst (AreValues ss) left v;
+      fits = λ sheet made v. subst (AreValues sheet) left v;
     }
 
 pub put_rpdo-requires : goal.put_rpdo-requires
@@ -91,9 +91,9 @@ pdos-preserved c =
           ∙ append_assoc old (written_of e) (flat_map written_of rest)
           ∙ ap (λ (es : List (ℕ × Taken)). old ++ flat_map written_of es) (sym left) ∙ c.pdos.invariant.written;
       taken = All-tail (IsTaken cs node) e rest taken;
-      fits = λ ss made v. c.pdos.invariant.fits ss made
-          (subst (λ (es : List (ℕ × Taken)). AreValues ss (flat_map written_of es)) (sym left)
-          (both_values ss (written_of e) (flat_map written_of rest) (c.in_ok-put_rpdo.ensures.fits ss node
+      fits = λ sheet made v. c.pdos.invariant.fits sheet made
+          (subst (λ (es : List (ℕ × Taken)). AreValues sheet (flat_map written_of es)) (sym left)
+          (both_values sheet (written_of e) (flat_map written_of rest) (c.in_ok-put_rpdo.ensures.fits sheet node
           ((made e.1.clean.now here.message).1 e.1.consumer.now here.consumer here.taker)) v));
     }
 
@@ -105,10 +105,10 @@ returns-clause-writes c =
     ∙ c.pdos.invariant.written
 
 pub returns-clause-fits : goal.returns-clause-fits
-returns-clause-fits c = λ ss made.
+returns-clause-fits c = λ sheet made.
     let empty : c.pdos._number-iterator ≡ [] = search rules in
-    c.pdos.invariant.fits ss made
-    (subst (λ (es : List (ℕ × Taken)). AreValues ss (flat_map written_of es)) (sym empty) (no_values ss))
+    c.pdos.invariant.fits sheet made
+    (subst (λ (es : List (ℕ × Taken)). AreValues sheet (flat_map written_of es)) (sym empty) (no_values sheet))
 
 pub returns-clause-few : goal.returns-clause-few
 returns-clause-few c =

@@ -2,7 +2,7 @@ use Rattle.std.proofs.Common.{◌≡◌, ℕ, ◌++◌, List, All}
 use Rattle.std.specs.Prelude.{filter_map}
 use Rattle.std.specs.List.{flat_map}
 use Rattle.concise_dcf.specs.declared.write.Write.{Write}
-use Rattle.ini_text.specs.Content.{Section}
+use Rattle.eds_device.specs.Sheets.{Sheet}
 use Rattle.pdo_choices.specs.declared.clean.Clean.{Clean}
 use Rattle.pdo_choices.specs.declared.consumer.Consumer.{Consumer}
 use Rattle.pdo_plan.specs.Plan.{clean, IsMadeFor}
@@ -23,5 +23,5 @@ invariant-pdos l =
       written : l.writes.items ++ left ≡ l.initial.writes.items ++ all;
       taken : All (λ (e : ℕ × Taken). Takes (clean l.plan) l.node e.0 (e.1.clean.now, e.1.consumer.now))
           l._number-iterator;
-      fits : (ss : List Section) → IsMadeFor l.plan ss l.node → AreValues ss left → AreValues ss all;
+      fits : (sheet : Sheet) → IsMadeFor l.plan sheet l.node → AreValues sheet left → AreValues sheet all;
     }

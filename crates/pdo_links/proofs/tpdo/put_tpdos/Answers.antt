@@ -23,7 +23,7 @@ pdos-init c =
     let node : ℕ = c.args.node in
     let cs : List Clean = clean c.args.plan.now in
     let pdos : List (ℕ × Clean) = filter_map (tpdo_of node) cs in
-    let f : Clean → List Write = tpdo_writes c.args.device.now.sections node in
+    let f : Clean → List Write = tpdo_writes c.args.device.now node in
     let g : ℕ × Bor Clean → List Write = λ e. f e.1.now in
     let shows : Bor Clean → Clean = λ k. k.now in
     let es : List (ℕ × Bor Clean) = c.in_ok-tpdos.tpdos.entries in
@@ -47,7 +47,7 @@ pdos-init c =
     record {
       written = ap (λ (ws : List Write). c.args.writes.now.items ++ ws) left;
       sent = subst (All (λ (e : ℕ × Bor Clean). Sends cs node e.0 e.1.now)) (sym is) sent;
-      fits = λ made v. subst (AreValues c.args.device.now.sections) left v;
+      fits = λ made v. subst (AreValues c.args.device.now) left v;
     }
 
 pub put_tpdo-requires : goal.put_tpdo-requires
@@ -63,7 +63,7 @@ pub pdos-preserved : goal.pdos-preserved
 pdos-preserved c =
     let node : ℕ = c.args.node in
     let cs : List Clean = clean c.args.plan.now in
-    let f : Clean → List Write = tpdo_writes c.args.device.now.sections node in
+    let f : Clean → List Write = tpdo_writes c.args.device.now node in
     let g : ℕ × Bor Clean → List Write = λ e. f e.1.now in
     let old : List Write = c.pdos.writes.items in
     let e : ℕ × Bor Clean = (c.in-Some._number.now, c.in-Some.clean.now) in
@@ -78,29 +78,29 @@ pdos-preserved c =
           ∙ ap (λ (es : List (ℕ × Bor Clean)). old ++ flat_map g es) (sym left) ∙ c.pdos.invariant.written;
       sent = All-tail (λ (e : ℕ × Bor Clean). Sends cs node e.0 e.1.now) e rest sent;
       fits = λ made v. c.pdos.invariant.fits made
-          (subst (λ (es : List (ℕ × Bor Clean)). AreValues c.args.device.now.sections (flat_map g es)) (sym left)
-          (both_values c.args.device.now.sections (f e.1.now) (flat_map g rest)
+          (subst (λ (es : List (ℕ × Bor Clean)). AreValues c.args.device.now (flat_map g es)) (sym left)
+          (both_values c.args.device.now (f e.1.now) (flat_map g rest)
           (c.in_ok-put_tpdo.ensures.fits ((made e.1.now here.message).0 here.sender)) v));
     }
 
 pub returns-clause-writes : goal.returns-clause-writes
 returns-clause-writes c =
-    let g : ℕ × Bor Clean → List Write = λ e. tpdo_writes c.args.device.now.sections c.args.node e.1.now in
+    let g : ℕ × Bor Clean → List Write = λ e. tpdo_writes c.args.device.now c.args.node e.1.now in
     let empty : c.pdos._number-iterator ≡ [] = search rules in
     sym (append_none c.pdos.writes.items)
     ∙ ap (λ (es : List (ℕ × Bor Clean)). c.pdos.writes.items ++ flat_map g es) (sym empty) ∙ c.pdos.invariant.written
 
 pub returns-clause-fits : goal.returns-clause-fits
 returns-clause-fits c = λ made.
-    let g : ℕ × Bor Clean → List Write = λ e. tpdo_writes c.args.device.now.sections c.args.node e.1.now in
+    let g : ℕ × Bor Clean → List Write = λ e. tpdo_writes c.args.device.now c.args.node e.1.now in
     let empty : c.pdos._number-iterator ≡ [] = search rules in
     c.pdos.invariant.fits made
-    (subst (λ (es : List (ℕ × Bor Clean)). AreValues c.args.device.now.sections (flat_map g es)) (sym empty)
-    (no_values c.args.device.now.sections))
+    (subst (λ (es : List (ℕ × Bor Clean)). AreValues c.args.device.now (flat_map g es)) (sym empty)
+    (no_values c.args.device.now))
 
 pub returns-clause-few : goal.returns-clause-few
 returns-clause-few c =
-    few_tpdos c.args.device.now.sections c.args.node (filter_map (tpdo_of c.args.node) (clean c.args.plan.now))
+    few_tpdos c.args.device.now c.args.node (filter_map (tpdo_of c.args.node) (clean c.args.plan.now))
     (λ number k is.
     (All-contains IsWithin (clean c.args.plan.now) k (rw c.messages.ensures.list at c.messages.ensures.within)
     (sends (clean c.args.plan.now) c.args.node number k is).message).sent.1)

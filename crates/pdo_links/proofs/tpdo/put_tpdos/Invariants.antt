@@ -13,12 +13,12 @@ use Rattle.pdo_links.proofs.tpdo.put_tpdos.Given as goal
 -- what is written so far, with the TPDOs that are left, is what is written of all numbers
 abbrev pub invariant-pdos : goal.invariant-pdos
 invariant-pdos l =
-    let f : Clean → List Write = tpdo_writes l.device.sections l.node in
+    let f : Clean → List Write = tpdo_writes l.device l.node in
     let all : List Write = by_number f (filter_map (tpdo_of l.node) (clean l.plan)) in
     let left : List Write = flat_map (λ (e : ℕ × Bor Clean). f e.1.now) l._number-iterator in
     record {
       written : l.writes.items ++ left ≡ l.initial.writes.items ++ all;
       sent : All (λ (e : ℕ × Bor Clean). Sends (clean l.plan) l.node e.0 e.1.now) l._number-iterator;
-      fits : IsMadeFor l.plan l.device.sections l.node → AreValues l.device.sections left
-          → AreValues l.device.sections all;
+      fits : IsMadeFor l.plan l.device l.node → AreValues l.device left
+          → AreValues l.device all;
     }

@@ -4,5 +4,5 @@ use Rattle.pdo_links.proofs.VendorValues.{unused_values}
 use Rattle.pdo_links.proofs.vendor_rpdo.put_numbered.Goals as goal
 
 pub returns-in-None-clause-fits : goal.returns-in-None-clause-fits
-returns-in-None-clause-fits c = λ ss node is.
-    anyway c.put_unused.result (rw c.in-None.is (unused_values ss node c.args.device.now is (rpdo_object c.args.number)))
+returns-in-None-clause-fits c = λ sheet node is.
+    anyway c.put_unused.result (rw c.in-None.is (unused_values sheet node c.args.device.now is (rpdo_object c.args.number)))

@@ -25,8 +25,8 @@ returns-clause-writes c =
     (rw (c.as_slice.ensures, c.rpdo_object-object.ensures, c.from-cob.ensures) at c.in_ok-put_on.ensures.writes)
 
 pub returns-clause-fits : goal.returns-clause-fits
-returns-clause-fits c = λ ss node is.
+returns-clause-fits c = λ sheet node is.
     let k : Consumer = c.args.consumer.now in
-    rpdo_values ss node c.args.device.now is c.args.clean.now k (omega (arith, c.requires.1)) (λ written.
+    rpdo_values sheet node c.args.device.now is c.args.clean.now k (omega (arith, c.requires.1)) (λ written.
     (rw (c.as_slice.ensures, c.rpdo_object-object.ensures) at c.in_ok-put_on.ensures.bytes) (opened c.args.device.now (rpdo_object k.rpdo) _ written)
     written)

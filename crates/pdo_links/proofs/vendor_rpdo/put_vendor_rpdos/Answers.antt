@@ -1,4 +1,4 @@
-use Rattle.std.proofs.Common.{◌≡◌, ℕ, List, ◌++◌, Option, refl, sym, subst, ap, ◌∙◌, arith}
+use Rattle.std.proofs.Common.{◌≡◌, ℕ, ◌+◌, ◌<◌, ◌≤◌, List, [], ◌++◌, Option, refl, sym, subst, ap, ◌∙◌, arith}
 use Rattle.std.specs.Prelude.{filter_map}
 use Rattle.std.specs.BTreeMap.{is_at}
 use Rattle.std.specs.Map.{lookup}
@@ -11,10 +11,11 @@ use Rattle.pdo_choices.specs.declared.consumer.Consumer.{Consumer}
 use Rattle.pdo_plan.specs.Plan.{clean}
 use Rattle.pdo_links.specs.declared.taken.Taken.{Taken}
 use Rattle.pdo_links.specs.PdoWrites.{rpdo_of}
-use Rattle.pdo_links.specs.Tables.{AreValues, IsTableOf}
+use Rattle.pdo_links.specs.Tables.{IsTableOf}
 use Rattle.pdo_links.specs.VendorWrites.{unused_writes, vendor_rpdo_writes}
-use Rattle.pdo_links.proofs.EachNumber.{all_numbers, at_each, continued_values, started_values}
-use Rattle.pdo_links.proofs.NumberLemmas.{begun, ended, walked}
+use Rattle.pdo_links.proofs.EachNumber.{all_numbers, all_values, at_each, continued_values, nothing_at, started_values}
+use Rattle.pdo_links.proofs.EachNumber.{AreValuesTo}
+use Rattle.pdo_links.proofs.NumberLemmas.{begun, ended, further, walked}
 use Rattle.pdo_links.proofs.Numbered.{takes}
 use Rattle.pdo_links.proofs.Tabled.{tabled}
 use Rattle.pdo_links.proofs.Used.{of_shown, taken_within, used_within}
@@ -26,9 +27,19 @@ numbers-init c =
     let f : Clean × Consumer → List Write = λ t. vendor_rpdo_writes c.args.device.now t.0 t.1 in
     let none : ℕ → List Write = λ number. unused_writes c.args.device.now (rpdo_object number) in
     let pdos : List (ℕ × (Clean × Consumer)) = filter_map (rpdo_of c.args.node) (clean c.args.plan.now) in
+    let shows : Taken → Clean × Consumer = λ t. (t.clean.now, t.consumer.now) in
+    let table : IsTableOf shows c.in_ok-rpdos.rpdos.entries pdos = rw c.messages.ensures.list at c.in_ok-rpdos.ensures in
+    let nothing : (k : ℕ) → 1 ≤ k → k < c.next_written-number.result → at_each f none pdos k ≡ [] =
+    λ k low below. nothing_at f none pdos k
+    (sym (tabled shows c.in_ok-rpdos.rpdos.entries pdos k table) ∙ ap (option_map shows) (c.next_written-number.ensures.unused k low below))
+    (c.next_written-number.ensures.nothing k low below) in
     record {
-      written = begun (at_each f none pdos) c.args.writes.now.items c.args.writes.now.items refl;
-      fits = λ n is ss node same. started_values f none pdos ss n is;
+      low = c.next_written-number.ensures.low;
+      high = c.next_written-number.ensures.high;
+      written = further (at_each f none pdos) c.args.writes.now.items c.args.writes.now.items 1
+          c.next_written-number.result c.next_written-number.ensures.low c.next_written-number.ensures.high nothing
+          (begun (at_each f none pdos) c.args.writes.now.items c.args.writes.now.items refl);
+      fits = λ sheet node same. started_values f none pdos sheet c.next_written-number.result nothing;
     }
 
 pub put_numbered-requires-clause-within : goal.put_numbered-requires-clause-within
@@ -53,14 +64,21 @@ numbers-preserved c =
     of_shown shows f (none number) c.used_at.result
     ∙ ap (λ (o : Option (Clean × Consumer)). option_map_or f o (none number))
     (ap (option_map shows) c.used_at.ensures ∙ tabled shows c.in_ok-rpdos.rpdos.entries pdos number table) in
+    let nothing : (k : ℕ) → number + 1 ≤ k → k < c.next_written-number-in-numbers.result → at_each f none pdos k ≡ [] =
+    λ k low below. nothing_at f none pdos k
+    (sym (tabled shows c.in_ok-rpdos.rpdos.entries pdos k table) ∙ ap (option_map shows) (c.next_written-number-in-numbers.ensures.unused k low below))
+    (c.next_written-number-in-numbers.ensures.nothing k low below) in
     record {
-      written = walked (at_each f none pdos) c.args.writes.now.items c.numbers.writes.items
+      low = omega (arith, c.next_written-number-in-numbers.ensures.low);
+      high = c.next_written-number-in-numbers.ensures.high;
+      written = further (at_each f none pdos) c.args.writes.now.items c.put_numbered.new.writes.items (number + 1)
+          c.next_written-number-in-numbers.result c.next_written-number-in-numbers.ensures.low c.next_written-number-in-numbers.ensures.high nothing
+          (walked (at_each f none pdos) c.args.writes.now.items c.numbers.writes.items
           c.put_numbered.new.writes.items number
           (c.in_ok-put_numbered.ensures.writes ∙ ap (λ (ws : List Write). c.numbers.writes.items ++ ws) here)
-          c.numbers.invariant.written;
-      fits = λ n is ss node same. continued_values f none pdos ss part n number is (omega arith)
-          (λ m before. c.numbers.invariant.fits m before ss node same) (c.in_ok-put_numbered.ensures.fits ss node same)
-          here;
+          c.numbers.invariant.written);
+      fits = λ sheet node same. continued_values f none pdos sheet part number c.next_written-number-in-numbers.result
+          (c.numbers.invariant.fits sheet node same) (c.in_ok-put_numbered.ensures.fits sheet node same) here nothing;
     }
 
 pub returns-clause-writes : goal.returns-clause-writes
@@ -73,11 +91,12 @@ returns-clause-writes c =
     ∙ ap (λ (ws : List Write). c.args.writes.now.items ++ ws) (sym (all_numbers f none pdos))
 
 pub returns-clause-fits : goal.returns-clause-fits
-returns-clause-fits c = λ ss node same.
+returns-clause-fits c = λ sheet node same.
     let f : Clean × Consumer → List Write = λ t. vendor_rpdo_writes c.args.device.now t.0 t.1 in
     let none : ℕ → List Write = λ number. unused_writes c.args.device.now (rpdo_object number) in
     let pdos : List (ℕ × (Clean × Consumer)) = filter_map (rpdo_of c.args.node) (clean c.args.plan.now) in
-    subst (AreValues ss) (sym (all_numbers f none pdos)) (c.numbers.invariant.fits 512 (omega arith) ss node same)
+    let last : c.numbers.number ≡ 513 = omega (arith, c.numbers.invariant.high) in
+    all_values f none pdos sheet (subst (AreValuesTo f none pdos sheet) last (c.numbers.invariant.fits sheet node same))
 
 pub returns-clause-few : goal.returns-clause-few
 returns-clause-few c =

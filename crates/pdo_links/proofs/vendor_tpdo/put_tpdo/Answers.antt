@@ -23,8 +23,8 @@ returns-clause-writes c =
     (rw (c.as_slice.ensures, c.tpdo_object-object.ensures, c.from-cob.ensures) at c.in_ok-put_on.ensures.writes)
 
 pub returns-clause-fits : goal.returns-clause-fits
-returns-clause-fits c = λ ss node is.
+returns-clause-fits c = λ sheet node is.
     let k : Clean = c.args.clean.now in
-    tpdo_values ss node c.args.device.now is k (omega (arith, c.requires.sent.1)) (λ written.
+    tpdo_values sheet node c.args.device.now is k (omega (arith, c.requires.sent.1)) (λ written.
     (rw (c.as_slice.ensures, c.tpdo_object-object.ensures) at c.in_ok-put_on.ensures.bytes) (opened c.args.device.now (tpdo_object k.message.tpdo) _ written)
     written)

@@ -8,6 +8,6 @@ use Rattle.pdo_links.proofs.writing.writes.Goals as goal
 pub returns-clause-fits : goal.returns-clause-fits
 unfolding AreValues
 returns-clause-fits c = λ made.
-    subst (λ (ws : List Write). All (IsValue c.args.device.now.sections) ws) (sym c.in_ok-put_links.ensures.writes)
-    (All-append (IsValue c.args.device.now.sections) c.in_ok-writes.writes.items _ c.in_ok-writes.ensures.fits
+    subst (λ (ws : List Write). All (IsValue c.args.device.now) ws) (sym c.in_ok-put_links.ensures.writes)
+    (All-append (IsValue c.args.device.now) c.in_ok-writes.writes.items _ c.in_ok-writes.ensures.fits
     (c.in_ok-put_links.ensures.fits made))

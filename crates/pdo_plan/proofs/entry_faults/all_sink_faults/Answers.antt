@@ -2,8 +2,8 @@ use Rattle.std.proofs.Common.{◌≡◌, ℕ, ◌∷◌, Option, true, ap, ◌�
 use Rattle.std.specs.Option.{option_map_or}
 use Rattle.pdo_stations.specs.declared.carried.Carried.{Carried}
 use Rattle.pdo_plan.specs.Carried.{is_untakable, mismatches}
-use Rattle.pdo_plan.specs.Mapping.{differ}
-use Rattle.pdo_stations.specs.Devices.{width_at}
+use Rattle.pdo_plan.specs.Mapping.{misfit}
+use Rattle.pdo_stations.specs.Devices.{type_at, width_at}
 use Rattle.pdo_stations.specs.Stations.{devices_in}
 use Rattle.pdo_plan.proofs.AnyLemmas.{any_noted}
 use Rattle.pdo_plan.proofs.entry_faults.all_sink_faults.Goals as goal
@@ -13,8 +13,9 @@ sinks-preserved c =
     let devices = devices_in c.args.stations.now in
     let sink : (ℕ × ℕ) × (ℕ × ℕ) = (c.in-Some.seat.now, c.in-Some.place.now) in
     let first : c.sinks.seat-iterator ≡ sink ∷ c.next.new.self = search rules in
-    let differs = ap (λ (o : Option Carried). option_map_or (λ (s : Carried). differ s.bits
-    (width_at devices c.in-Some.seat.now.1 c.in-Some.place.now)) o true) c.source_at-source.ensures in
+    let differs = ap (λ (o : Option Carried). option_map_or (λ (s : Carried). misfit s.bits s.kind
+    (width_at devices c.in-Some.seat.now.1 c.in-Some.place.now)
+    (type_at devices c.in-Some.seat.now.1 c.in-Some.place.now)) o true) c.source_at-source.ensures in
     record {
       source = c.source_at-source.ensures;
       unmappable = any_noted (is_untakable devices c.args.sender) c.sinks.found.unmappable

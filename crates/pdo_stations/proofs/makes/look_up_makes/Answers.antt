@@ -11,15 +11,15 @@ nodes-preserved c =
     let number = get_or nodes i c.index-nodes-count.result in
     let device = get_or nodes i c.index-nodes-count-in-nodes.result in
     let next : i + 1 ≡ c.nodes.count = omega arith in
-    let left : nodes_of (drop i nodes) ≡ (number.0, device.1.now.sections) ∷ nodes_of (drop c.nodes.count nodes) =
+    let left : nodes_of (drop i nodes) ≡ (number.0, device.1.now) ∷ nodes_of (drop c.nodes.count nodes) =
     node_before nodes i c.index-nodes-count.result c.index-nodes-count-in-nodes.result (omega arith)
-    ∙ ap (λ n. (number.0, device.1.now.sections) ∷ nodes_of (drop n nodes)) next in
+    ∙ ap (λ n. (number.0, device.1.now) ∷ nodes_of (drop n nodes)) next in
     let so_far : (node : ℕ) → get_or c.as_mut_slice.result.now node None
     ≡ made node (nodes_of (drop c.nodes.count nodes)) =
     subst (λ makes. (node : ℕ) → get_or makes node None ≡ made node (nodes_of (drop c.nodes.count nodes)))
     (sym c.as_mut_slice.ensures.value) c.nodes.invariant.makes in
     let more = made_more c.as_mut_slice.result.now c.put_made.new.makes number.0
-    device.1.now.sections (nodes_of (drop c.nodes.count nodes)) c.in_ok-put_made.ensures.made so_far in
+    device.1.now (nodes_of (drop c.nodes.count nodes)) c.in_ok-put_made.ensures.made so_far in
     let after = c.put_made.new.makes in
     let count : length after ≡ 256 = c.in_ok-put_made.ensures.count in
     let as_many : c.nodes.makes.len ≡ length after = omega (arith, count, c.nodes.invariant.count, c.nodes.makes.ok) in

@@ -7,7 +7,7 @@ pub returns-clause-station : goal.returns-clause-station
 returns-clause-station c =
     let seats = c.args.seats.now in
     let within : c.args.number < length seats = omega (arith, c.ranges.number.fits, c.requires) in
-    let is : c.in_ok-station.station ≡ shape_of c.args.device.now.sections c.args.number =
+    let is : c.in_ok-station.station ≡ shape_of c.args.device.now c.args.number =
     c.in_ok-station.ensures ∙ c.in_ok-shape.ensures in
-    rw (c.from.ensures, is) (seat_taken seats c.args.number (shape_of c.args.device.now.sections c.args.number)
+    rw (c.from.ensures, is) (seat_taken seats c.args.number (shape_of c.args.device.now c.args.number)
     within)

@@ -12,15 +12,15 @@ nodes-preserved c =
     let number = get_or nodes i c.index-nodes-count.result in
     let device = get_or nodes i c.index-nodes-count-in-nodes.result in
     let next : i + 1 ≡ c.nodes.count = omega arith in
-    let left : nodes_of (drop i nodes) ≡ (number.0, device.1.now.sections) ∷ nodes_of (drop c.nodes.count nodes) =
+    let left : nodes_of (drop i nodes) ≡ (number.0, device.1.now) ∷ nodes_of (drop c.nodes.count nodes) =
     node_before nodes i c.index-nodes-count.result c.index-nodes-count-in-nodes.result (omega arith)
-    ∙ ap (λ n. (number.0, device.1.now.sections) ∷ nodes_of (drop n nodes)) next in
+    ∙ ap (λ n. (number.0, device.1.now) ∷ nodes_of (drop n nodes)) next in
     let so_far : (node : ℕ) → shape_at (seats_by_number 0 c.as_mut_slice.result.now) node
     ≡ shaped node (nodes_of (drop c.nodes.count nodes)) =
     subst (λ seats. (node : ℕ) → shape_at (seats_by_number 0 seats) node ≡ shaped node (nodes_of (drop c.nodes.count nodes)))
     (sym c.as_mut_slice.ensures.value) c.nodes.invariant.stations in
     let more = stations_more (seats_by_number 0 c.as_mut_slice.result.now) (seats_by_number 0 c.add_station.new.seats) number.0
-    device.1.now.sections (nodes_of (drop c.nodes.count nodes)) c.in_ok-add_station.ensures.station so_far in
+    device.1.now (nodes_of (drop c.nodes.count nodes)) c.in_ok-add_station.ensures.station so_far in
     let after = c.add_station.new.seats in
     let count : length after ≡ 256 = c.in_ok-add_station.ensures.count in
     let as_many : c.nodes.seats.len ≡ length after = omega (arith, count, c.nodes.invariant.count, c.nodes.seats.ok) in

@@ -6,4 +6,4 @@ use Rattle.project_plan.proofs.wanted.values_given.Given as goal
 
 abbrev pub invariant-loop-place : goal.invariant-loop-place
 invariant-loop-place l =
-    Has (wanted_value l.device.sections l.params l.id) l.values (take l.place-index (pairs_of l.device.sections))
+    Has (wanted_value l.device l.params l.id) l.values (take l.place-index (pairs_of l.device.sections))

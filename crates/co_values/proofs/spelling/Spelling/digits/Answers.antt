@@ -1,5 +1,4 @@
-use Rattle.std.proofs.Common.{◌≡◌, ℕ, pos, List, Option, option_map, option_and_then, ap, ◌∙◌}
-use Rattle.co_values.specs.declared.form.Width.{Width}
+use Rattle.std.proofs.Common.{ℕ, pos, Option, option_map, option_and_then, ap, ◌∙◌}
 use Rattle.co_values.specs.Number.{digits_of, formula_in}
 use Rattle.co_values.specs.Values.{unsigned_bits}
 use Rattle.co_values.proofs.KeptFormulas.{bits_of_digits}

@@ -7,5 +7,5 @@ use Rattle.eds_device.proofs.data_sheet.DataSheet.common_shape.Given as goal
 -- the shape has the entries so far, as they are at each node
 abbrev pub invariant-loop-place : goal.invariant-loop-place
 invariant-loop-place l =
-    ((node : ℕ) → Has (λ p. entry_at l.self.sections node p.0 p.1) l.shape.entries
+    ((node : ℕ) → Has (λ p. entry_at l.self node p.0 p.1) l.shape.entries
     (take l.place-index (pairs_of l.self.sections))) × (l.shape.dummies ≡ dummies_of l.self.sections)

@@ -8,8 +8,8 @@ use Rattle.eds_device.proofs.data_sheet.DataSheet.defaults_of_all.Goals as goal
 
 pub returns : goal.returns
 returns c =
-    let ss = c.args.self.now.sections in
+    let sheet = c.args.self.now in
     c.in_ok-add_defaults.ensures
-    ∙ ap (λ (ps : List (ℕ × ℕ)). with_defaults ss c.args.node ps c.new-dict.result) c.pairs.ensures.pairs
-    ∙ ap (with_defaults ss c.args.node (pairs_of ss)) c.new-dict.ensures
-    ∙ all_set ss c.args.node
+    ∙ ap (λ (ps : List (ℕ × ℕ)). with_defaults sheet c.args.node ps c.new-dict.result) c.pairs.ensures.pairs
+    ∙ ap (with_defaults sheet c.args.node (pairs_of sheet.sections)) c.new-dict.ensures
+    ∙ all_set sheet c.args.node

@@ -9,14 +9,14 @@ use Rattle.eds_device.proofs.data_sheet.DataSheet.shape.Goals as goal
 
 pub loop-place-init : goal.loop-place-init
 loop-place-init c =
-    let f : ℕ × ℕ → Option Entry = λ p. entry_at c.args.self.now.sections c.args.node p.0 p.1 in (
+    let f : ℕ × ℕ → Option Entry = λ p. entry_at c.args.self.now c.args.node p.0 p.1 in (
       rw (ap (λ (s : Shaped). s.entries) c.new-shape.ensures) (has_none f),
       ap (λ (s : Shaped). s.dummies) c.new-shape.ensures ∙ c.dummies.ensures,
     )
 
 pub loop-place-preserved : goal.loop-place-preserved
 loop-place-preserved c =
-    let f : ℕ × ℕ → Option Entry = λ p. entry_at c.args.self.now.sections c.args.node p.0 p.1 in
+    let f : ℕ × ℕ → Option Entry = λ p. entry_at c.args.self.now c.args.node p.0 p.1 in
     let ps : List (ℕ × ℕ) = c.pairs-place-items.result.now in
     let i : ℕ = c.loop-place.place-index in
     let d : ℕ × ℕ = (0, 0) in
@@ -32,7 +32,7 @@ loop-place-preserved c =
 pub returns : goal.returns
 unfolding shape_of
 returns c =
-    let f : ℕ × ℕ → Option Entry = λ p. entry_at c.args.self.now.sections c.args.node p.0 p.1 in
+    let f : ℕ × ℕ → Option Entry = λ p. entry_at c.args.self.now c.args.node p.0 p.1 in
     let ps = pairs_of c.args.self.now.sections in
     let all : take c.loop-place.place-index ps
     ≡ ps = take_all c.loop-place.place-index ps (rw c.pairs-place-items.ensures.pairs at c.loop-place-test.false) in

@@ -1,5 +1,6 @@
 use Rattle.std.proofs.Common.{option_map, ap, ◌∙◌}
-use Rattle.ini_text.specs.Content.{content_of}
+use Rattle.part_shelves.specs.SheetText.{sheet_made}
+use Rattle.part_shelves.proofs.SlotLemmas.{sheet_read}
 use Rattle.kept_parts.proofs.KindLemmas.{device_brought, device_is_of, device_now, device_stays, device_unmarked}
 use Rattle.kept_parts.proofs.KindLemmas.{device_value}
 use Rattle.kept_parts.proofs.kept_parts.KeptParts.bring_device.Goals as goal
@@ -25,9 +26,10 @@ returns-clause-brings c =
 pub returns-clause-value : goal.returns-clause-value
 returns-clause-value c =
     c.in_ok-device.ensures ∙ c.value.ensures
-    ∙ ap (option_map content_of)
+    ∙ ap (option_map sheet_made)
     (device_value c.args.project.now c.args.self.now c.requires c.args.name.now c.bring.new.self
     c.in_ok-bring.ensures.ok)
+    ∙ sheet_read c.args.project.now c.args.name.now
 
 pub returns-clause-unmarked : goal.returns-clause-unmarked
 returns-clause-unmarked c =

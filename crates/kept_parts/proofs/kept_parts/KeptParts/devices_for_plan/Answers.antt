@@ -1,9 +1,11 @@
 use Rattle.std.proofs.Common.{arith, refl, ap, option_map, ◌≡◌, ◌∙◌, ◌∷◌, ◌++◌, ℕ, List, Option, subst}
 use Rattle.std.proofs.lemmas.Grind.{common_steps}
 use Rattle.std.specs.Option.{option_to_list}
-use Rattle.ini_text.specs.Content.{Content as DataSheet, content_of}
+use Rattle.eds_device.specs.Sheets.{Sheet}
 use Rattle.co_project.specs.declared.node.Node.{Node}
-use Rattle.part_shelves.specs.Slots.{text_kept}
+use Rattle.part_shelves.specs.SheetText.{sheet_made}
+use Rattle.part_shelves.specs.Slots.{sheet_kept}
+use Rattle.part_shelves.proofs.SlotLemmas.{sheet_read}
 use Rattle.project_plan.specs.Network.{device_at}
 use Rattle.kept_parts.specs.declared.kept_parts.KeptParts.{KeptParts}
 use Rattle.kept_parts.proofs.KindLemmas.{device_now}
@@ -37,13 +39,13 @@ loop-number-preserved c =
     subst (λ (it : List (ℕ × Node)). Gathered p it c.loop-number.devices) steps c.loop-number.invariant.1 in
     let unmarked = gathered_next p e c.next.new.self c.loop-number.devices old before c.requires.unmarked in
     let value : c.in_ok-device.device ≡ device_at p e.1.eds = c.in_ok-device.ensures.device
-    ∙ ap (λ (k : KeptParts). option_map content_of (text_kept k.devices name)) c.loop-number.invariant.0
-    ∙ ap (λ (n : List ℕ). option_map content_of (text_kept old.devices n)) c.as_slice-name.ensures
-    ∙ ap (option_map content_of) (device_now p old c.requires.is_of e.1.eds unmarked) in (
+    ∙ ap (λ (k : KeptParts). option_map sheet_made (sheet_kept k.devices name)) c.loop-number.invariant.0
+    ∙ ap (λ (n : List ℕ). option_map sheet_made (sheet_kept old.devices n)) c.as_slice-name.ensures
+    ∙ ap (option_map sheet_made) (device_now p old c.requires.is_of e.1.eds unmarked) ∙ sheet_read p e.1.eds in (
       ap (with_devices c.loop-number.self) c.shared.ensures.same ∙ c.loop-number.invariant.0,
       gathered_more p e c.next.new.self c.loop-number.devices c.push.new.self before
           (c.in_ok-push.ensures
-          ∙ ap (λ (d : Option DataSheet). c.loop-number.devices ++ option_to_list (option_map (λ d. (e.0, d)) d)) value),
+          ∙ ap (λ (d : Option Sheet). c.loop-number.devices ++ option_to_list (option_map (λ d. (e.0, d)) d)) value),
     )
 
 pub returns-clause-same : goal.returns-clause-same

@@ -1,7 +1,7 @@
 use Rattle.std.proofs.Common.{◌∙◌, List, ℕ, Some, option_copied, option_map, sym, ap}
 use Rattle.std.specs.Result.{result_ok}
-use Rattle.ini_text.specs.Content.{content_of}
-use Rattle.part_shelves.specs.Slots.{text_kept}
+use Rattle.part_shelves.specs.SheetText.{sheet_made}
+use Rattle.part_shelves.specs.Slots.{sheet_kept}
 use Rattle.network_image.proofs.DeviceLemmas.{device_set, none_set}
 use Rattle.network_image.proofs.devices_now.DevicesNow.bytes_set.Goals as goal
 
@@ -16,7 +16,7 @@ returns-in-Ok c =
     ∙ device_set c.args.self.now.project.now c.args.self.now.devices.now c.args.node c.args.index c.args.sub
     c.args.text.now c.in-Some.known.now (Some c.get.result.now) c.args.self.now.holds c.in-Some.ensures.node
     (ap Some c.get.ensures ∙ c.in-Some-value.ensures
-    ∙ ap (λ (name : List ℕ). option_map content_of (text_kept c.args.self.now.devices.now name))
+    ∙ ap (λ (name : List ℕ). option_map sheet_made (sheet_kept c.args.self.now.devices.now name))
     c.as_slice.ensures)
 
 pub returns-in-Err : goal.returns-in-Err
@@ -25,5 +25,5 @@ returns-in-Err c =
     ∙ device_set c.args.self.now.project.now c.args.self.now.devices.now c.args.node c.args.index c.args.sub
     c.args.text.now c.in-Some.known.now (Some c.get.result.now) c.args.self.now.holds c.in-Some.ensures.node
     (ap Some c.get.ensures ∙ c.in-Some-value.ensures
-    ∙ ap (λ (name : List ℕ). option_map content_of (text_kept c.args.self.now.devices.now name))
+    ∙ ap (λ (name : List ℕ). option_map sheet_made (sheet_kept c.args.self.now.devices.now name))
     c.as_slice.ensures)

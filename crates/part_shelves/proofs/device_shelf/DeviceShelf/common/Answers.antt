@@ -1,6 +1,6 @@
 use Rattle.std.proofs.Common.{None, Some, option_map, ap, ◌∙◌}
-use Rattle.ini_text.specs.Content.{content_of}
-use Rattle.part_shelves.proofs.SlotLemmas.{slot_left, slots_stay, text_found}
+use Rattle.part_shelves.specs.SheetText.{sheet_made}
+use Rattle.part_shelves.proofs.SlotLemmas.{sheet_found, slot_left, slots_stay}
 use Rattle.part_shelves.proofs.device_shelf.DeviceShelf.common.Goals as goal
 
 pub returns-in_default-clause-same : goal.returns-in_default-clause-same
@@ -10,8 +10,8 @@ returns-in_default-clause-same c =
 
 pub returns-in_default-clause-device : goal.returns-in_default-clause-device
 returns-in_default-clause-device c =
-    ap (option_map content_of)
-    (text_found c.self.inside.slots c.args.self.now c.self.view_is c.args.name.now None c.in_default.ensures.value)
+    ap (option_map sheet_made)
+    (sheet_found c.self.inside.slots c.args.self.now c.self.view_is c.args.name.now None c.in_default.ensures.value)
 
 pub returns-in_err-device-clause-same : goal.returns-in_err-device-clause-same
 returns-in_err-device-clause-same c =
@@ -28,6 +28,6 @@ returns-clause-same c =
 pub returns-clause-device : goal.returns-clause-device
 returns-clause-device c =
     ap Some c.in_ok-device.ensures.device
-    ∙ ap (option_map content_of)
-    (text_found c.self.inside.slots c.args.self.now c.self.view_is c.args.name.now (Some c.in-Some.seat.now)
+    ∙ ap (option_map sheet_made)
+    (sheet_found c.self.inside.slots c.args.self.now c.self.view_is c.args.name.now (Some c.in-Some.seat.now)
     c.in-Some.ensures.value)

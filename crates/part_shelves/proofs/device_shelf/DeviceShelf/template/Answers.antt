@@ -1,13 +1,14 @@
-use Rattle.std.proofs.Common.{◌≡◌, ℕ, List, Option, None, Some, IfSome, option_map, ap, sym, ◌∙◌}
-use Rattle.ini_text.specs.Content.{Content, content_of}
-use Rattle.part_shelves.proofs.SlotLemmas.{slot_left, slots_stay, text_found}
+use Rattle.std.proofs.Common.{◌≡◌, Option, None, Some, IfSome, option_map, ap, sym, ◌∙◌}
+use Rattle.eds_device.specs.Sheets.{Sheet}
+use Rattle.part_shelves.specs.SheetText.{sheet_made, SheetText}
+use Rattle.part_shelves.proofs.SlotLemmas.{sheet_found, slot_left, slots_stay}
 use Rattle.part_shelves.proofs.device_shelf.DeviceShelf.template.Goals as goal
 
--- what is of the text that is kept
-of_text : (found : Option Content) (kept : List ℕ) (text : Option (List ℕ)) → Some kept ≡ text
-    → IfSome found (λ t. t ≡ content_of kept) → IfSome found (λ t. option_map content_of text ≡ Some t)
-of_text None kept text is h = tt
-of_text (Some t) kept text is h = sym (ap Some h ∙ ap (option_map content_of) is)
+-- what is of the device that is kept
+of_kept : (found : Option Sheet) (kept : SheetText) (given : Option SheetText) → Some kept ≡ given
+    → IfSome found (λ t. t ≡ sheet_made kept) → IfSome found (λ t. option_map sheet_made given ≡ Some t)
+of_kept None kept given is h = tt
+of_kept (Some t) kept given is h = sym (ap Some h ∙ ap (option_map sheet_made) is)
 
 pub returns-in_default-clause-same : goal.returns-in_default-clause-same
 returns-in_default-clause-same c =
@@ -28,7 +29,7 @@ returns-clause-same c =
 
 pub returns-clause-template : goal.returns-clause-template
 returns-clause-template c =
-    of_text c.in_ok-template.template c.in-Some.seat.now.kept _
-    (text_found c.self.inside.slots c.args.self.now c.self.view_is c.args.name.now (Some c.in-Some.seat.now)
+    of_kept c.in_ok-template.template c.in-Some.seat.now.kept _
+    (sheet_found c.self.inside.slots c.args.self.now c.self.view_is c.args.name.now (Some c.in-Some.seat.now)
     c.in-Some.ensures.value)
     c.in_ok-template.ensures.template

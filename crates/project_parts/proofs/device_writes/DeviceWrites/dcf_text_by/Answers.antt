@@ -1,6 +1,6 @@
 use Rattle.std.proofs.Common.{List, ap, sym, ◌∙◌}
 use Rattle.ini_text.specs.Change.{text_of}
-use Rattle.ini_text.specs.Content.{Content as DataSheet}
+use Rattle.eds_device.specs.Sheets.{Sheet}
 use Rattle.concise_dcf.specs.declared.write.Write.{Write}
 use Rattle.eds_dcf.specs.Dcf.{dcf_sections}
 use Rattle.project_parts.specs.Written.{AreValuesOf, DeviceWithWrites}
@@ -17,8 +17,8 @@ dcf_text-requires c =
 pub returns : goal.returns
 returns c =
     c.in_ok-text.ensures
-    ∙ ap (λ (d : DataSheet). text_of (dcf_sections d.sections c.args.node c.args.name.now c.args.rate
+    ∙ ap (λ (d : Sheet). text_of (dcf_sections d c.args.node c.args.name.now c.args.rate
     c.as_slice-writes.result.now)) c.requires
-    ∙ ap (λ (ws : List Write). text_of (dcf_sections c.args.self.now.device.sections c.args.node c.args.name.now
+    ∙ ap (λ (ws : List Write). text_of (dcf_sections c.args.self.now.device c.args.node c.args.name.now
     c.args.rate ws)) (c.as_slice-writes.ensures.writes ∙ c.get.ensures ∙ ap (λ (d : DeviceWithWrites). d.writes)
     c.self.view_is)
