@@ -12,7 +12,6 @@ from .devices import PRODUCER_TIME, Device
 from .manager import Manager
 from .messages import plan_of
 from .values import value
-from .versions import STARTS
 from .write_check import Shape
 from .writes import node_writes
 
@@ -30,7 +29,6 @@ class Roster:
     day: int                   # that begins at the moment 0
     sync_counter: int
     version: int
-    starts_by_number: bool     # in place of the start of all nodes at once
     nodes: Tuple[int, ...]
     mandatory: Tuple[int, ...]
 
@@ -39,7 +37,7 @@ class Roster:
         mandatory = tuple(number for number, node in sorted(project.nodes.items())
                           if node.is_mandatory and number != project.controller())
         return Roster(project.bit_rate, *project.manager, *project.time, project.sync_counter, project.version,
-                      project.has(STARTS), tuple(sorted(project.nodes)), mandatory)
+                      tuple(sorted(project.nodes)), mandatory)
 
     def controller(self):
         """The node that the manager runs in, or None."""

@@ -113,7 +113,7 @@ class Manager:
             self.start_network()
 
     def start_network(self):
-        if not self.roster.starts_by_number:
+        if self.roster.version < 3:
             self.command(START, 0)
             return
         for node in self.roster.nodes:

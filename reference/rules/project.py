@@ -4,11 +4,10 @@ Version 3 has `receive MESSAGE ID RPDO MS` and `unreceive MESSAGE ID`: the node 
 one that the plan gives) and expects it within so many milliseconds (0: the entry stays as it is); and `time-period US
 DAYS`: the manager sends TIME, and the run begins at midnight of that day. A node may have the manager's number."""
 from dataclasses import dataclass, field
-from typing import Dict, FrozenSet, List, Tuple
+from typing import Dict, List, Tuple
 
 from .entries import DataSheet
 from .faults import IN_USE, LIMIT, RANGE, TAKEN, UNKNOWN, refuse_unless
-from .versions import CONTROLLER, TYPES, WHOLE
 from .write_check import Place
 
 MOST_TEXTS, MOST_PARAMETERS, MOST_MESSAGES = 64, 4_096, 1_024
@@ -58,7 +57,6 @@ class Event:
 
 @dataclass
 class Project:
-    parts: FrozenSet[str] = WHOLE       # those of version 3 that are known
     version: int = 1
     bit_rate: int = 1000
     horizon: int = 1_000_000
@@ -74,10 +72,6 @@ class Project:
     sinks: Dict[Tuple[bytes, int, int], Place] = field(default_factory=dict)        # by message, position and node
     receives: Dict[Tuple[bytes, int], Tuple[int, int]] = field(default_factory=dict)    # by message and node: RPDO, ms
     events: Dict[int, Event] = field(default_factory=dict)
-
-    def has(self, part):
-        """Scripts of this version have that part of version 3."""
-        return self.version >= 3 and part in self.parts
 
     def sheet(self, node):
         return self.sheets[self.nodes[node].eds]
@@ -120,10 +114,10 @@ class Project:
         refuse_unless(version > 1 or not any(node.is_mandatory for node in self.nodes.values()), IN_USE)
         refuse_unless(version > 2 or not self.receives and not self.time[0] and self.controller() is None, IN_USE)
         self.version = version
-        self.sheets = {name: sheet.with_types(self.has(TYPES)) for name, sheet in self.sheets.items()}
+        self.sheets = {name: sheet.with_types(version >= 3) for name, sheet in self.sheets.items()}
 
     def edit_manager(self, *numbers):
-        refuse_unless(self.has(CONTROLLER) or numbers[0] not in self.nodes, TAKEN)
+        refuse_unless(self.version >= 3 or numbers[0] not in self.nodes, TAKEN)
         self.manager = numbers
 
     def edit_time_period(self, period, day):
@@ -131,14 +125,14 @@ class Project:
 
     def edit_eds(self, name, lines, sheet):
         refuse_unless(name in self.texts or len(self.texts) < MOST_TEXTS, LIMIT)
-        self.texts[name], self.sheets[name] = lines, sheet.with_types(self.has(TYPES))
+        self.texts[name], self.sheets[name] = lines, sheet.with_types(self.version >= 3)
 
     def edit_drop_eds(self, name):
         refuse_unless(all(node.eds != name for node in self.nodes.values()), IN_USE)
         del self.texts[name], self.sheets[name]
 
     def edit_node(self, number, name, eds):
-        refuse_unless(self.has(CONTROLLER) or number != self.manager[0], TAKEN)
+        refuse_unless(self.version >= 3 or number != self.manager[0], TAKEN)
         refuse_unless(all(node.name != name for other, node in self.nodes.items() if other != number), TAKEN)
         self.nodes[number] = Node(name, eds, number in self.nodes and self.nodes[number].is_mandatory)
 

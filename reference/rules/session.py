@@ -8,7 +8,6 @@ from .faults import NAMES, SYNTAX, UNKNOWN, Refused, refuse_unless
 from .ini_text import LONGEST_LINE, lines_of
 from .messages import plan_of
 from .project import Project
-from .versions import WHOLE
 from .writes import node_writes
 
 LONGEST_INPUT = 67_108_864
@@ -18,10 +17,10 @@ class TooLong(Exception):
     """The input has over 64 MiB."""
 
 
-def replies_to(data, parts=WHOLE, work=None):
-    """The reply to each command of an input, of which one byte more than 64 MiB is enough. parts: those of version 3
-    that are known. work, if any, counts what was made anew for the answers."""
-    project, is_too_long = Project(parts), len(data) > LONGEST_INPUT
+def replies_to(data, work=None):
+    """The reply to each command of an input, of which one byte more than 64 MiB is enough. work, if any, counts what
+    was made anew for the answers."""
+    project, is_too_long = Project(), len(data) > LONGEST_INPUT
     lines, place = lines_of(data[:LONGEST_INPUT], is_too_long), 0
     while place < len(lines):
         line, size = lines[place], block_lines(lines[place])

@@ -19,7 +19,6 @@ from .bus import WINDOW, Bus, Image, Roster
 from .entries import code_of, compact_count, object_sections
 from .messages import plan_of
 from .values import OF_VERSION_3, UNSIGNED8, UNSIGNED16, UNSIGNED32, type_of_code
-from .versions import TYPES
 from .writes import node_writes
 
 WINDOWS = 1_001                # of a run to the longest horizon
@@ -84,7 +83,7 @@ class Parts:
 
     def bring_device(self, node):
         """That of the node's text: its sections, its warned lines, and what has types of version 3."""
-        name, has_types = self.project.nodes[node].eds, self.project.has(TYPES)
+        name, has_types = self.project.nodes[node].eds, self.project.version >= 3
         sheet, inputs = self.project.sheets[name], (self.project.texts[name], has_types)
         return self.bring(("Device", name), inputs, lambda: device_value(sheet))
 

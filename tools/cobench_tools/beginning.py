@@ -136,6 +136,7 @@ class Beginning:
     def _manager(self):
         sync = f"SYNC each {self.sync // 1000} ms" if self.sync else "no SYNC"
         return [f"# The manager has number {MANAGER}, sends {sync} and no heartbeat, and waits 500 ms for an answer.",
+                "# Where it is one of the nodes, as a PLC mostly is, it has the number of that, in version 3.",
                 f"manager {MANAGER} {self.sync} 0 500"]
 
     def _node(self, number):

@@ -1,7 +1,7 @@
 """What is other in the files of the nodes of two networks."""
 from . import values
 from .device import object_name
-from .matrix import value_text
+from .matrix import need_of, value_text
 from .wiring import key_and_bits
 
 LAST_DUMMY = 7
@@ -39,7 +39,7 @@ def of_itself(old, new, number):
     names = [side.project.nodes[number][1] for side in (old, new)]
     if names[0] == names[1] and old.project.texts[names[0]] != new.project.texts[names[0]]:
         lines.append(f"its data sheet {names[0]} is other")
-    needs = ["mandatory" if number in side.project.mandatory else "optional" for side in (old, new)]
+    needs = [need_of(side.project, number) for side in (old, new)]
     return lines + ([f"need: {needs[0]} -> {needs[1]}"] if needs[0] != needs[1] else [])
 
 

@@ -132,7 +132,7 @@ def of_boots(evidence, all_boots, said_of, why_of=lambda node, boot: ""):
     said_of  gives for some nodes what was last said by SDO, as `last_said` does
     why_of   gives why a boot isn't over, or why there is none, in words behind the others
     """
-    mine = {node: all_boots.get(node, []) for node in sorted(evidence.project.nodes)}
+    mine = {node: all_boots.get(node, []) for node in evidence.project.booted}
     troubled = [node for node, each in mine.items() if not each or not all(boot.is_configured() for boot in each)]
     said = said_of(troubled) if troubled else {}
     return [finding for node in troubled for finding in troubles(evidence, node, mine[node], said[node], why_of)]

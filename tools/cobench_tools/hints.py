@@ -3,7 +3,7 @@ from . import tool, wrong_word as wrong
 from .forms import FORMS, bad_syntax, form_of, wrong_word
 from .likely import node_hint
 from .limits import out_of_range
-from .project import Project
+from .project import CONTROLLERS, Project
 
 
 def truncated(command):
@@ -28,6 +28,8 @@ def why_of_this_version(project, version):
     """What keeps a script from an older version, or None."""
     if version == 1 and project.mandatory:
         return f"mandatory: {list_of(sorted(project.mandatory))}"
+    if version < 3 and project.controller is not None:
+        return f"node {project.controller} has the manager's number, which it can in version 3 alone"
     receives = [name for name, message in sorted(project.messages.items()) if message.receives]
     if version < 3 and receives:
         return f"messages with a receive, which is of version 3: {list_of(receives)}"
@@ -87,7 +89,7 @@ class Hints:
                 if word not in project.messages:
                     return self.missing("message", word, sorted(project.messages), command)
             if kind == "ID" and first not in ("node", "manager") or kind == "TO" and int(word):
-                if int(word) == project.manager[0]:
+                if int(word) == project.manager[0] and int(word) not in project.nodes:
                     return f"{int(word)} is the manager's number, and it is no node"
                 if int(word) not in project.nodes:
                     return self.missing("node", word, sorted(project.nodes), command)
@@ -109,10 +111,11 @@ class Hints:
 
     def taken(self, command, project):
         first, *rest = [tool.shown(word) for word in command.words]
-        if first == "manager" and int(rest[0]) in project.nodes:
-            return f"{int(rest[0])} is the number of a node"
-        if first == "node" and int(rest[0]) == project.manager[0]:
-            return f"{int(rest[0])} is the number of the manager"
+        is_old = project.version < CONTROLLERS
+        if is_old and first == "manager" and int(rest[0]) in project.nodes:
+            return f"{int(rest[0])} is the number of a node; in version 3 the manager can have it"
+        if is_old and first == "node" and int(rest[0]) == project.manager[0]:
+            return f"{int(rest[0])} is the number of the manager; in version 3 a node can have it"
         for node, (name, _) in project.nodes.items():
             if first == "node" and name == rest[1] and node != int(rest[0]):
                 return f"node {node} has that name"

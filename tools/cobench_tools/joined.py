@@ -65,14 +65,14 @@ class Draft:
 
 
 class Joined:
-    """The messages of the nodes of several files, for a script of a version.
+    """The messages of the nodes of several files, for a script of a version with these numbers of its manager.
 
     drafts  the messages, by the names that they get
     causes  why a PDO of a node is in no message, in words, by node, direction and number
     """
 
-    def __init__(self, files, version=1):
-        self.files, self.version = {file.number: file for file in files}, version
+    def __init__(self, files, version, manager):
+        self.files, self.version, self.manager = {file.number: file for file in files}, version, manager
         self.causes = {}
         self.drafts = self._drafts()
         self._give_takers()
@@ -149,7 +149,7 @@ class Joined:
     def plan(self):
         """What the plan makes of the messages."""
         project = Project()
-        project.version = self.version
+        project.version, project.manager = self.version, self.manager
         project.nodes = {number: (file.name, "") for number, file in self.files.items()}
         project.messages = {draft.name: draft.message() for draft in self.drafts}
         return plan.Plan(project, {number: file.device for number, file in self.files.items()})

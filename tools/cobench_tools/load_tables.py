@@ -77,8 +77,8 @@ def stuffed_bits(load, frame):
 def boot_table(load):
     """What the first boot of each node takes: SDO frames, their time on the bus, and when it was configured."""
     all_boots, rows, sums = boots.boots_of(load.lines), [], [0, 0, 0, 0]
-    for number, node in sorted(load.network.nodes.items()):
-        first = all_boots.get(number, [None])[0]
+    for number in load.network.project.booted:
+        node, first = load.network.nodes[number], all_boots.get(number, [None])[0]
         end = first.end if first else None
         frames = [line for line in load.lines if is_sdo(line, number) and (end is None or line.time <= end)]
         plain = sum(plain_bits(len(frame.data)) for frame in frames) * load.bit

@@ -1,87 +1,19 @@
 """The script of an existing machine, of the DCFs of its nodes."""
 import os
 
-from . import lost_pdos, safe_text, taken_twice, tool
-from .joined import MOST_MESSAGES, Joined, free_name
+from . import manager_objects, safe_text, told_of_files, tool
+from .joined import MOST_MESSAGES, free_name
 from .limits import RATES
-from .node_file import NodeFile
-from .node_values import NOTE, WARNING, NodeValues
-from .pdo_writes import values_of
+from .machine_manager import controller_of, is_controller, number_of
+from .taken_over import LAST_NODE, read_files, taken_best
 from .wiring import RPDO
 
-MOST_SHEETS, MOST_ENTRIES, MOST_NODES = 64, 4096, 127
-SYNC_PRODUCER = TIME_PRODUCER = 1 << 30
-LEAST_SYNC, LONGEST_SYNC = 1_000, 10_000_000
-
-
-def read_files(paths, version):
-    """The DCFs of a machine, by node, for a script of a version."""
-    files = sorted((NodeFile(path, version) for path in paths), key=lambda file: file.number)
-    for one, other in zip(files, files[1:]):
-        if one.number == other.number:
-            raise tool.Fault(f"{one.path} and {other.path} are both of node {one.number}")
-    names = set()
-    for file in files:
-        file.name = free_name(file.name, names)
-        entries = len(file.device.entries)
-        if entries > MOST_ENTRIES:
-            raise tool.Fault(f"{file.path}: it has {entries:,} entries, and cobench takes {MOST_ENTRIES:,}")
-    if len(files) == MOST_NODES:
-        raise tool.Fault(f"{MOST_NODES} nodes leave no number for the manager")
-    return files
+MOST_SHEETS = 64
 
 
 def comment(text):
     """A comment line."""
     return f"# {safe_text.readable(text)}"
-
-
-class Taken:
-    """What a script of a version takes over of the DCFs of a machine.
-
-    files   the DCFs, by node
-    joined  their messages
-    values  the values of each node that are none of PDOs
-    pdos    what there is to tell of the PDOs of each node
-    """
-
-    def __init__(self, paths, version, with_defaults):
-        self.files = read_files(paths, version)
-        self.joined = Joined(self.files, version)
-        self.values = {file.number: NodeValues(file, with_defaults) for file in self.files}
-        self.pdos = told_of_pdos(self.joined)
-
-    def tells_all(self):
-        """Whether nothing is to be told of its PDOs, and none of its values is lost."""
-        return not any(self.pdos.values()) and not any(each.lost for each in self.values.values())
-
-    def loss(self):
-        """How many values are lost, and how much else there is to warn of."""
-        warned = sum(severity == WARNING for several in self.pdos.values() for _, severity, _ in several)
-        return warned + sum(each.lost for each in self.values.values())
-
-
-def taken_best(paths, with_defaults):
-    """What a script takes over: one of version 3 where less is lost so, else one of version 1."""
-    old = Taken(paths, 1, with_defaults)
-    if old.tells_all():
-        return old
-    new = Taken(paths, 3, with_defaults)
-    return new if new.loss() < old.loss() else old
-
-
-def told_of_pdos(joined):
-    """What there is to tell of the PDOs of each node: a line, `warning` or `note`, and words each, by the nodes."""
-    plan, found = joined.plan(), {}
-    for number, file in joined.files.items():
-        causes = {(direction, at): why for (node, direction, at), why in joined.causes.items() if node == number}
-        made = values_of(plan, number)
-        keys = lost_pdos.all_keys(file, made) if joined.version >= 3 else None
-        lost = lost_pdos.warnings(file.node, made, causes, keys) + taken_twice.warnings(file, made)
-        lost += lost_pdos.silenced(file, made, causes)
-        found[number] = [(line, WARNING, words) for line, words in lost]
-        found[number] += [(line, NOTE, words) for line, words in lost_pdos.turned_off(file, made)]
-    return found
 
 
 class Machine:
@@ -90,28 +22,34 @@ class Machine:
     sheets  the data sheets by their names, each the lines of the first file that has it
     joined  the messages
     told    what a script can't say, or needn't: FILE, line, `warning` or `note`, and words each
+
+    `given` is the number of the node that the manager runs in, 0 for none of them, None where the files have to show it.
     """
 
-    def __init__(self, paths, with_defaults):
-        taken = taken_best(paths, with_defaults)
-        self.files, self.joined, self.values = taken.files, taken.joined, taken.values
+    def __init__(self, paths, with_defaults, given=None):
+        files, masters = read_files(paths, 3)
+        self.controller, rivals = controller_of(files, masters, given)
+        if len(files) == LAST_NODE and not self.controller:
+            raise tool.Fault(f"{LAST_NODE} nodes leave no number for the manager; --manager N says in which of them it runs")
+        taken = taken_best(files, self.controller, paths, with_defaults)
+        self.files, self.joined, self.values, self.settings = taken.files, taken.joined, taken.values, taken.settings
+        self.is_asked = given is None and not self.controller
         self.sheets, self.sheet_of = {}, {}
         self._share_sheets()
         if len(self.joined.drafts) > MOST_MESSAGES:
             raise tool.Fault(f"they have {len(self.joined.drafts):,} messages, and cobench takes {MOST_MESSAGES:,}")
         self.bitrate = next((file.bitrate for file in self.files if file.bitrate in RATES), None)
         self.told = [(file.path, *each) for file in self.files for each in sorted(taken.pdos[file.number] + self._told_of(file))]
+        self.told += [told for file in masters.values() for told in told_of_files.of_master(file, taken)] + told_of_files.of_rivals(rivals)
 
     def _told_of(self, file):
         """What there is to tell of a file but for its PDOs: a line, `warning` or `note`, and words each."""
-        lost = []
-        if file.bitrate not in (None, self.bitrate):
-            network = f"the network has {self.bitrate}" if self.bitrate else "cobench has no such bit rate"
-            lost.append((file.line, f"Baudrate is {file.bitrate} kbit/s; {network}"))
-        dropped = ", ".join(f"{key}={value} (line {line})" for line, key, value in file.dropped)
-        if dropped:
-            lost.append((file.dropped[0][0], f"the script has no word for what the commissioning section says besides: {dropped}"))
-        return self.values[file.number].told + [(line, WARNING, words) for line, words in lost]
+        is_own = is_controller(self.controller, file)
+        told = self.values[file.number].told + told_of_files.of_commissioning(file, self.bitrate, is_own)
+        told += told_of_files.of_uploads(file, is_own)
+        if is_own:
+            return told + told_of_files.of_controller(self.controller, self.settings)
+        return told + (told_of_files.of_second_sync(file) if self.settings.manager[1] else [])
 
     def _share_sheets(self):
         """Nodes with equal data sheets have one name for it."""
@@ -146,32 +84,28 @@ class Machine:
     def _settings(self):
         lines = [f"version {self.joined.version}"] if self.joined.version > 1 else []
         lines += [f"bitrate {self.bitrate}"] if self.bitrate else []
-        taken = {file.number for file in self.files}
-        manager = max(number for number in range(1, 128) if number not in taken)
-        sync = self._sync()
+        number, sync, heartbeat, timeout = self.settings.manager
+        if self.is_asked:
+            lines.append(comment("no file shows in which node the manager runs, so it has a number of its own here; --manager N names the node"))
         if not sync:
             lines.append(comment("no file says how often SYNC comes: the second number below, in microseconds"))
-        lines.append(f"manager {manager} {sync} 0 500")
+        if self.controller and manager_objects.HEARTBEAT not in self.controller.file.device.entries:
+            lines.append(comment("no file says how often the manager's heartbeat comes: the third number below, in milliseconds"))
+        lines.append(f"manager {number} {sync} {heartbeat} {timeout}")
         lines += [comment(f"{file.name} sends TIME (1012h), and no file says how often: time-period US DAYS, of version 3")
-                  for file in self.files if (file.node.number_at(0x1012, 0, 0x07) or 0) & TIME_PRODUCER]
-        counters = {file.node.number_at(0x1019, 0, 0x05) for file in self.files} - {None, 0}
-        if len(counters) == 1 and 2 <= min(counters) <= 240:
-            lines.append(f"sync-counter {min(counters)}")
+                  for file in self.files if number_of(file, manager_objects.TIME) & manager_objects.PRODUCER]
+        lines += [f"sync-counter {self.settings.sync_counter}"] if self.settings.sync_counter else []
         return lines
-
-    def _sync(self):
-        """The microseconds from SYNC to SYNC by the file of the node that sends it, 0 where none says it."""
-        for file in self.files:
-            period = file.node.number_at(0x1006, 0, 0x07) or 0
-            if (file.node.number_at(0x1005, 0, 0x07) or 0) & SYNC_PRODUCER and LEAST_SYNC <= period <= LONGEST_SYNC:
-                return period
-        return 0
 
     def _node(self, file):
         lines = ["#", comment(file.path)]
-        if file.is_manager:
+        if is_controller(self.controller, file):
+            signs = f" ({', '.join(self.controller.signs)})" if self.controller.signs else ""
+            lines.append(comment(f"the manager runs in it{signs}"))
+        elif file.is_manager:
             lines.append(comment("it is the CANopen manager of its network; here the manager is a node of its own"))
         lines.append(f"node {file.number} {file.name} {self.sheet_of[file.number]}")
+        lines += [f"need {file.number} mandatory"] if file.number in self.settings.mandatory else []
         return lines + [f"param {file.number} {key[0]:04X} {key[1]:X} {text}"
                         for key, text in self.values[file.number].parameters]
 

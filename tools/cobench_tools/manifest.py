@@ -9,7 +9,7 @@ from . import VERSION, tool
 
 NAME = "export.json"
 LONGEST = 1 << 20       # bytes; 127 nodes take less than a tenth
-NODE_FILE = re.compile(r"[0-9]{1,3}_[A-Za-z0-9_]{1,32}\.(dcf|bin)")
+NODE_FILE = re.compile(r"[0-9]{1,3}_[A-Za-z0-9_]{1,32}(\.dcf|\.bin|_master\.dcf)")
 OTHERS = ("diagnostics.txt", "trace.txt", "trace.log")
 DIGEST = re.compile(r"[0-9a-f]{64}")
 

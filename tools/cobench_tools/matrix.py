@@ -49,8 +49,9 @@ def heading(title, network):
     project = network.project
     manager, sync, heartbeat, timeout = project.manager
     counted = f", counted 1 to {project.sync_counter}" if project.sync_counter else ""
+    name = "" if project.controller is None else f" {network.name(manager)}"
     words = [f"{len(project.nodes)} nodes", f"{len(project.messages)} messages", f"{project.bitrate} kbit/s",
-             f"manager {manager}", f"SYNC each {sync:,} us{counted}" if sync else "no SYNC",
+             f"manager {manager}{name}", f"SYNC each {sync:,} us{counted}" if sync else "no SYNC",
              f"SDO timeout {timeout} ms"]
     words += [f"heartbeat of the manager each {heartbeat} ms"] if heartbeat else []
     words += [f"TIME each {project.time[0]:,} us, from {day_text(project.time[1])} on"] if project.time else []
@@ -61,13 +62,17 @@ def nodes_table(network):
     def row(number):
         node, (name, eds) = network.nodes[number], network.project.nodes[number]
         info = node.device.sections.get("deviceinfo", {})
-        need = "mandatory" if number in network.project.mandatory else "optional"
         params = sum(not pdo_values.is_of_pdos(key[0]) for key in node.written)
         about = [info.get("vendorname", NONE), info.get("productname", NONE), device_type(node)]
-        return [number, name, eds, *about, need, params]
+        return [number, name, eds, *about, need_of(network.project, number), params]
 
     columns = ["Node", "Name", "Data sheet", "Vendor", "Product", "Device type", "Need", "Parameters"]
     return Table("nodes", "Nodes", columns, [row(number) for number in sorted(network.nodes)])
+
+
+def need_of(project, node):
+    """Whether the manager waits for a node before it starts the network, or the node is the manager."""
+    return "manager" if node == project.controller else "mandatory" if node in project.mandatory else "optional"
 
 
 def device_type(node):
@@ -149,9 +154,9 @@ def parameters_table(network):
 
 
 def producers(network):
-    """The heartbeat times in milliseconds of the manager and the nodes that send one."""
-    times = {network.project.manager[0]: network.project.manager[2]}
-    times.update((number, node.heartbeat) for number, node in network.nodes.items())
+    """The heartbeat times in milliseconds of the manager and the nodes that send one; the controller's is the manager's."""
+    times = {number: node.heartbeat for number, node in network.nodes.items()}
+    times[network.project.manager[0]] = network.project.manager[2]
     return {number: time for number, time in times.items() if time}
 
 

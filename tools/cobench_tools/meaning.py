@@ -1,12 +1,13 @@
 """What the frames of a trace mean, in the words of a project.
 
 Which PDO a frame is, and what it carries, is read as the network itself has it: from the defaults of a
-node's EDS, and from the writes by which the manager configures it in the trace.
+node's EDS, and from the writes by which the manager configures it in the trace. The controller, the node that
+the manager runs in, isn't configured in it: its PDOs are those of its writes from the first moment on.
 """
 import datetime
 from collections import namedtuple
 
-from . import device, receiver_names
+from . import device, pdo_writes, receiver_names
 from .data_types import REALS
 from .logs.rows import NAMES
 from .trace import Foreign, Note
@@ -133,23 +134,34 @@ def same(one, other):
 class Network:
     """The nodes of a project, or of none, with what the trace so far tells of their PDOs.
 
+    manager    the number of the manager, which the controller has too
+    is_recorded  whether the trace is a recording: there the controller's heartbeats tell the state that it has
     values     the numbers of each node's entries by which PDOs are told; a node's are never changed, but replaced
     owners     the TPDOs that have each identifier, as node and number
     transfers  the SDO transfer of each node
     touched    the identifiers of which it may have changed what PDOs they are
+    first      what is known before the first line
+
+    `of_controller` are the numbers that the controller is configured with, where they are known already.
     """
 
-    def __init__(self, project=None, with_names=False, devices=None):
+    def __init__(self, project=None, with_names=False, devices=None, of_controller=None):
         if project and devices is None:
             devices = {name: device.Device(lines, project.version) for name, lines in project.texts.items()}
-        self.manager = project.manager[0] if project else 127
+        self.project, self.manager = project, project.manager[0] if project else 127
         self.names = {node: name for node, (name, _) in project.nodes.items()} if project else {}
         self.devices = {node: devices[eds] for node, (_, eds) in project.nodes.items()} if project else {}
         self.messages = {(each.node, each.tpdo): name for name, each in project.messages.items()} if project else {}
-        self.with_names = with_names
+        self.with_names, self.is_recorded = with_names, False
+        if project and of_controller is None:
+            of_controller = pdo_writes.of_controller(project, lambda: pdo_writes.planned(project, devices))
+        self._of_controller = of_controller or {}
         self._beside = receiver_names.of_project(project, devices) if project and with_names else {}
         self.values, self.owners, self.transfers, self.touched = {}, {}, {}, set()
         self._pdos, self._defaults, self._said = {}, {}, {}
+        if self.manager in self.names:
+            self.power(self.manager)
+        self.first = self.state()
 
     # What the trace has told so far, to be kept and to go on from.
 
@@ -171,9 +183,22 @@ class Network:
             self._pdos.pop(each, None)
 
     def name(self, node):
-        if node == self.manager:
-            return "manager"
-        return self.names.get(node, f"node {node}")
+        return self.names.get(node) or ("manager" if node == self.manager else f"node {node}")
+
+    def nodes(self, told):
+        """The nodes that have a state, by number: those of the project and those that were told of; the manager has none,
+        unless it is the controller."""
+        return sorted(set(self.names) | told - {self.manager})
+
+    def lanes(self, told):
+        """The nodes that have a lane, the manager first: the controller has no other."""
+        return [self.manager] + [node for node in self.nodes(told) if node != self.manager]
+
+    def title(self, node):
+        """What stands beside the name of a node: its number, and whether it is the manager too; "" of one that isn't known."""
+        if node in self.names:
+            return f"manager {node}" if node == self.manager else f"node {node}"
+        return f"node {node}" if node == self.manager else ""
 
     def name_text(self, node, key):
         """The name of an entry behind a blank, where names are wanted and it has one."""
@@ -207,11 +232,13 @@ class Network:
         self.touch(identifiers_of(node, before) | identifiers_of(node, values))
 
     def defaults(self, node):
-        """The numbers that the entries of a node by which PDOs are told have from power-on on."""
+        """The numbers that the entries of a node by which PDOs are told have from power-on on: those of the controller are
+        what it is configured with."""
         if node not in self._defaults:
             known = self.devices.get(node)
             values = {key: known.default(*key, node) for key in known.entries if tells_pdos(key)} if known else {}
-            self._defaults[node] = {key: value for key, value in values.items() if value is not None}
+            written = self._of_controller if node == self.manager else {}
+            self._defaults[node] = {key: value for key, value in {**values, **written}.items() if value is not None and tells_pdos(key)}
         return self._defaults[node]
 
     def disown(self, node, key, value):

@@ -2,7 +2,7 @@
 import subprocess
 from typing import Dict, List, Optional
 
-from . import concise, manifest, safe_text, session, tool, trace
+from . import concise, manifest, master_file, safe_text, session, tool, trace
 from .logs import writers
 
 LONGEST_WAIT = 10.0     # seconds in which cobench says its version
@@ -17,12 +17,14 @@ def log_of(answered) -> str:
     return writers.log_of(trace.frames_of(trace.of_answer(answered.lines("trace"))), "log", trace.LOG_START)
 
 
-def files_of(answered) -> Dict[str, bytes]:
-    """The name and the bytes of each file of a network."""
+def files_of(answered, master: Optional[master_file.MasterFile]) -> Dict[str, bytes]:
+    """The name and the bytes of each file of a network, with that for its master where there is one."""
     files = {}
     for node, (name, _) in sorted(answered.project.nodes.items()):
         files[f"{node}_{name}.dcf"] = text_of(answered.lines("dcf", node))
         files[f"{node}_{name}.bin"] = concise.bytes_of(answered.lines("cdcf", node))
+    if master and master.data is not None:
+        files[master.name] = master.data
     files["diagnostics.txt"], files["trace.txt"] = text_of(answered.lines("diag")), text_of(answered.lines("trace"))
     files["trace.log"] = log_of(answered).encode()
     return files

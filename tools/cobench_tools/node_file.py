@@ -12,6 +12,7 @@ LONGEST_NAME = 32
 SPELLED = {"netnumber": "NetNumber", "networkname": "NetworkName", "canopenmanager": "CANopenManager",
            "lss_serialnumber": "LSS_SerialNumber", "noderefd": "NodeRefd", "netrefd": "NetRefd"}
 VALUES = re.compile("([0-9a-f]{4})value")
+CONCISE_DCFS, UPLOAD = 0x1F22, "uploadfile"
 
 
 def name_of(text):
@@ -36,6 +37,7 @@ class NodeFile:
     bitrate, line   its Baudrate in kbit/s, None for none, and the line of its NodeID
     is_manager      whether it is the CANopen manager
     dropped         the keys of its commissioning section that no script can say: line, key and value each
+    uploads         the lines that name a file for the concise DCF of a node, by that node's number
     is_export       whether it has the form in which cobench prints DCFs: then each of its values was set by somebody
     device          its entries, with the values that the file gives them
     sheet           the lines of its data sheet: without these values, and without who the node is
@@ -48,6 +50,7 @@ class NodeFile:
         self.is_export = is_export(lines)
         self.device = Device(lines, version)
         self._read_commissioning()
+        self.uploads = self._uploads()
         self.sheet = self._without_values(lines)
         self.node = Node(self.number, self.device, self._given_values())
 
@@ -68,6 +71,14 @@ class NodeFile:
         self.dropped = [(keys.lines[key], SPELLED.get(key, key), value)
                         for key, value in keys.items() if value and self._is_dropped(key)]
         self.bitrate = read_number(keys.get("baudrate", ""))
+
+    def _uploads(self):
+        """The lines by which the sub-indexes of 1F22h have the bytes of files."""
+        found = {}
+        for (index, sub), entry in self.device.entries.items():
+            if index == CONCISE_DCFS and sub and UPLOAD in entry.keys:
+                found[sub] = entry.line_of(UPLOAD)
+        return found
 
     def _is_dropped(self, key):
         """Whether a key of the commissioning section says what a script has no word for."""
@@ -92,7 +103,7 @@ class NodeFile:
     def _without_values(self, lines):
         """The lines of the data sheet; values of types that cobench doesn't model stay, as no script can set them."""
         given = {entry.line for key, entry in self.device.entries.items()
-                 if entry.value and (entry.is_modelled or is_of_pdos(key[0]))}
+                 if entry.value and (entry.is_modelled or is_of_pdos(key[0]))} | set(self.uploads.values())
         kept, section, start = [], "", 0
         for number, line in enumerate(lines, 1):
             name = ini.header_of(line.strip(ini.BLANKS))

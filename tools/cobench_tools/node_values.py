@@ -17,11 +17,13 @@ class NodeValues:
     parameters  the entry and the text of each that a script sets, by index and sub-index
     told        what a script can't say, or needn't: a line, `warning` or `note`, and words each
     lost        how many values no script sets
+
+    `made` are the numbers of entries that an export makes of the network by itself.
     """
 
-    def __init__(self, file, with_defaults):
+    def __init__(self, file, with_defaults, made):
         self.file, self.parameters, self.told = file, [], []
-        unset, equal, kept = {}, [], {}
+        unset, equal, kept, again = {}, [], {}, []
         for key, entry in sorted(file.device.entries.items()):
             why = self._why_not(key, entry) if entry.value else None
             if entry.value and self._stays(key, entry):
@@ -32,6 +34,8 @@ class NodeValues:
                 continue
             elif self._is_default(key, entry) and not (with_defaults or file.is_export):
                 equal.append((entry.line, key))
+            elif key in made and made[key] == int.from_bytes(file.node.written[key], "little") and not with_defaults:
+                again.append((entry.line, key))
             else:
                 self.parameters.append((key, entry.value))
         self.lost = sum(map(len, [*unset.values(), *kept.values()]))
@@ -40,6 +44,7 @@ class NodeValues:
         for kind, several in kept.items():
             self._tell(WARNING, several, "kept in the data sheet, and so in the DCF (E16), but not written, as of "
                        f"{type_name(kind)}, a data type that cobench doesn't write")
+        self._tell(NOTE, again, "no parameter is needed, as the network makes the same value (--all makes one)")
         self._tell(NOTE, equal, "no parameter is needed for the default's value (--all makes one)")
 
     def _stays(self, key, entry):

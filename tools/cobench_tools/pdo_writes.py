@@ -1,5 +1,6 @@
 """What is written to the PDO objects of a node once it is planned (docs/rules/messages.md)."""
 from .pdo_objects import EVENT, INHIBIT, NO_RTR, START, TYPE
+from .plan import Plan
 from .wiring import RPDO, TPDO
 
 
@@ -16,6 +17,19 @@ def writes_of(plan, node):
 def values_of(plan, node):
     """The number that each entry has behind these writes."""
     return {key: number for writes in writes_of(plan, node).values() for key, number in writes}
+
+
+def of_controller(project, plan_of):
+    """The same of the controller, which the manager doesn't write: it is configured from power-on on; {} where there is none.
+
+    plan_of  gives the plan, for which it is asked where there is a controller
+    """
+    return {} if project.controller is None else values_of(plan_of(), project.controller)
+
+
+def planned(project, devices):
+    """The plan of a project with these data sheets, by their names."""
+    return Plan(project, {node: devices[eds] for node, (_, eds) in project.nodes.items()})
 
 
 def tpdo_writes(tpdo, planned):

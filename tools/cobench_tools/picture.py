@@ -4,7 +4,7 @@ Content of the page (JSON):
   title, script   what stands above; whether the project is known
   end, bit        the last moment in microseconds; microseconds a bit
   kinds           the names of the kinds of frames
-  lanes           [key, name, title] of each, the manager's first
+  lanes           [key, name, title] of each, the manager's first, which is the controller's where there is one
   stateNames      the names of the states
   states          by the key of a lane: [time, state] at each change
   sorts           what frames are: [identifier, kind, key of the lane, bytes, text], and behind these the bits of what isn't
@@ -172,13 +172,18 @@ class Drawing:
     def recognise(self, window, line):
         """What a frame is that wasn't there before; it is remembered where another of its kind says the same."""
         said = self.network.of(line)
-        found = self.sorts.place_of(line, said), state_change(line, said)
+        found = self.sorts.place_of(line, said), self.change(line, said)
         self.tell(window, line, said)
         if said.kind == meaning.PDO:
             self._known.setdefault(line.identifier, {})[len(line.data)] = found
         elif said.kind in (meaning.SYNC, meaning.HEARTBEAT, meaning.NMT) and not is_boot_up(line):
             self._known.setdefault(line.identifier, {})[line.data] = found
         return found
+
+    def change(self, line, said):
+        """What a frame changes: the manager's heartbeat tells nothing of the controller, unless it was recorded on a machine."""
+        is_of_manager = said.kind == meaning.HEARTBEAT and said.node == self.network.manager and not is_boot_up(line)
+        return None if is_of_manager and not self.network.is_recorded else state_change(line, said)
 
     def tell(self, window, line, said):
         """What a line tells besides its frame."""
@@ -199,13 +204,18 @@ def event_flag(network, key, event):
         entry, value = entry_text(event.entry), safe_text.readable(event.what)
         label = f"{entry} := {value}"
         words = f"{entry}{network.name_text(node, event.entry)} := {value}"
-    return [event.time, node, "event", label, f"event {key}: {words}"]
+    nothing = ", which does nothing" if network.project.is_idle(event) else ""
+    return [event.time, node, "event", label, f"event {key}: {words}{nothing}"]
 
 
-def moments_of(events, windows):
+def moments_of(project, events, windows):
     """What may change the states of nodes, in its order: time, node (0 for all) and state; on and off are those of power."""
-    powers = [(event.time, event.node, event.what) for _, event in events if event.kind == "power"]
-    return in_order(powers, [change for window in windows for change in window.changes])
+    return in_order(powers_of(project, events), [change for window in windows for change in window.changes])
+
+
+def powers_of(project, events):
+    """The times at which power is switched, with the node, and on or off."""
+    return [(event.time, event.node, event.what) for _, event in events if event.kind == "power" and not project.is_idle(event)]
 
 
 def in_order(powers, changes):
@@ -266,23 +276,17 @@ class Picture:
         self.window = self.drawing.window(0, shown.lines)
         self.events = events_of(shown.project, self.end) if not shown.plan else []
 
-    def nodes(self):
-        """The nodes but the manager, by number."""
-        return sorted((set(self.network.names) | self.drawing.nodes) - {self.network.manager})
-
     def lanes(self):
         """The lanes, the manager's first."""
-        lanes = [[node, self.network.name(node), self.title(node)] for node in [self.network.manager] + self.nodes()]
+        network = self.network
+        lanes = [[node, network.name(node), network.title(node)] for node in network.lanes(self.drawing.nodes)]
         return lanes + ([[OTHERS, "others", "sender not known"]] if self.drawing.others else [])
-
-    def title(self, node):
-        return f"node {node}" if node in self.network.names or node == self.network.manager else ""
 
     def content(self, title):
         return {
             "title": safe_text.readable(title), "script": self.project is not None, "end": self.end, "bit": self.bit,
             "kinds": meaning.KINDS, "stateNames": STATES, "lanes": self.lanes(),
-            "states": states_of(self.nodes(), moments_of(self.events, [self.window])),
+            "states": states_of(self.network.nodes(self.drawing.nodes), moments_of(self.project, self.events, [self.window])),
             "windows": [self.window.content()], "sorts": self.sorts.rows,
             "events": [event_flag(self.network, *each) for each in self.events], **self.counted,
         }

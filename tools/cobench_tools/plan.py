@@ -6,6 +6,7 @@ from .data_types import are_unlike, type_name
 from .device import object_name
 from .pdo_objects import EVENT, INHIBIT, START
 from .planned_message import DUMMIES, Cause, Planned, first_sink, numbers_text, why_no_dummy
+from .project import PRODUCER_TIME
 from .vendor_pdo import pdo_objects
 from .wiring import COMMUNICATION, RPDO, TPDO, is_restricted, pdo_numbers
 
@@ -161,9 +162,10 @@ class Plan:
         entry = self._entry(node, key)
         if not entry:
             return f"{what}: {self._name(node)} has no {object_name(key)}"
-        if entry.is_sent() if direction == TPDO else entry.is_taken():
+        is_of_manager = node == self.project.controller and key == PRODUCER_TIME
+        if not is_of_manager and (entry.is_sent() if direction == TPDO else entry.is_taken()):
             return None
-        why = (f"its data type is {type_name(entry.kind)}" if entry.bits is None
+        why = ("the controller's heartbeat is the manager's, whose time is HB_MS of manager" if is_of_manager else f"its data type is {type_name(entry.kind)}" if entry.bits is None
                else "its PDOMapping is 0" if not entry.mappable else f"its access is {entry.access}")
         pdo = "a TPDO" if direction == TPDO else "an RPDO"
         return f"{what}: {self._described(node, key)} of {self._name(node)} can't be in {pdo}, as {why}"

@@ -4,6 +4,7 @@ The rules are those of docs/rules/devices.md and docs/rules/bus.md: events come 
 and a consumer fails its time after the error control frame that it heard last.
 """
 from . import boots, full_bus, values
+from .boots import CONFIGURED
 from .trace import Note
 from .wiring import RPDO, TPDO
 
@@ -89,6 +90,7 @@ class PlannedRun:
     syncs        the times of SYNC
     boots        the boots of each node
     full         the times in which the bus has no pause
+    is_started   whether the manager starts the network: at a moment at which each mandatory node is configured
     """
 
     def __init__(self, evidence, lines):
@@ -99,6 +101,7 @@ class PlannedRun:
         self.boots, self.full = boots.boots_of(lines), full_bus.spans_of(lines, self.bit)
         self._consumers = {node: consumers_of(evidence.node(node)) for node in self.project.nodes}
         self._watching, self._missed = None, {node: [] for node in self.project.nodes}
+        self._waited, self._configured = self.project.mandatory & set(self.project.booted), set()
         self._disturbed, self._short, self._events = {}, {}, sorted(self.project.events.items(), key=by_time)
         self._pdos = {pdo.identifier for node in self.project.nodes for pdo in evidence.node(node).pdos(TPDO)}
         self._rpdos = {}
@@ -106,7 +109,9 @@ class PlannedRun:
             for rpdo in evidence.node(node).pdos(RPDO):
                 self._rpdos.setdefault(rpdo.identifier, []).append(rpdo)
         for line in lines:
-            if not isinstance(line, Note):
+            if isinstance(line, Note):
+                self._note(line)
+            else:
                 self._take_events(line.time)
                 self._take(line)
         self._take_events(self.end)
@@ -114,13 +119,23 @@ class PlannedRun:
             for span in life.spans[-1:]:
                 span[1] = self.end if span[1] is None else span[1]
 
+    def _note(self, note):
+        """The manager notes that a node is configured, that it is lost, or that its boot has failed."""
+        if note.what != CONFIGURED:
+            self._configured.discard(note.node)
+            return
+        self._configured.add(note.node)
+        self.is_started = self.is_started or self._waited <= self._configured
+
     # Events.
 
     def _take_events(self, until):
-        """The events up to a time."""
+        """The events up to a time; some of the controller do nothing."""
         while self._events and self._events[0][1].time <= until:
             number, event = self._events.pop(0)
             life = self.lives.get(event.node)
+            if self.project.is_idle(event):
+                continue
             if event.kind == "power" and (life.state == OFF) == (event.what == "on"):
                 life.restart(PRE_OPERATIONAL if event.what == "on" else OFF, event.time)
                 life.switched_off = number if event.what == "off" else None
@@ -170,7 +185,6 @@ class PlannedRun:
 
     def _command(self, service, node, time):
         """An NMT command is delivered."""
-        self.is_started = self.is_started or (service, node) == (START, 0)
         for each in [node] if node else list(self.lives):
             life = self.lives.get(each)
             if life is None or life.state == OFF:
@@ -184,13 +198,13 @@ class PlannedRun:
                     self._forget(each)
 
     def _error_control(self, node, byte, time):
-        """A boot-up message or a heartbeat of a node, for itself and for those that watch it."""
+        """A boot-up message or a heartbeat of a node, for itself and for the others that watch it."""
         life, disturbed = self.lives.get(node), self._disturbed.get(node)
         if life and life.state != OFF and byte == 0:
             life.restart(PRE_OPERATIONAL, time)
             self._forget(node)
         for consumer in self._watchers(node):
-            if self.lives[consumer.node].state != OFF:
+            if consumer.node != node and self.lives[consumer.node].state != OFF:
                 if consumer.fails_before(time):
                     self._missed[consumer.node].append(self._failure(consumer))
                 consumer.heard, consumer.has_failed = time, False

@@ -14,6 +14,8 @@ RATES = 10, 20, 50, 125, 250, 500, 1000
 SERVICES = 1, 2, 128, 129, 130
 SWITCHES = "on", "off"
 EDIT = re.compile("[a-z]+(-[a-z]+)?")
+PRODUCER_TIME = 0x1017, 0
+CONTROLLERS = 3     # from this version on a node may have the manager's number
 
 
 class Message:
@@ -73,6 +75,20 @@ class Project:
             raise tool.Fault(
                 f"line {command.number} of the script can't be accepted, and its reply says so: they are of "
                 f"different sessions: {tool.shown(command.line)}") from None
+
+    @property
+    def controller(self) -> Optional[int]:
+        """The node that the manager runs in, which has its number; None for none."""
+        return self.manager[0] if self.manager[0] in self.nodes else None
+
+    @property
+    def booted(self) -> List[int]:
+        """The nodes that the manager boots, by number: all but the controller."""
+        return sorted(node for node in self.nodes if node != self.controller)
+
+    def is_idle(self, event: Event) -> bool:
+        """Whether an event does nothing: of the controller neither the power is switched nor the heartbeat time asked."""
+        return event.node == self.controller and (event.kind == "power" or event.entry == PRODUCER_TIME)
 
     def node_there(self, word: str) -> int:
         """The number of a node, which has to be there."""

@@ -25,6 +25,7 @@ def plan_of(options, log):
 def network_of(plan, with_names):
     """The network of a plan, with its PDOs as they are planned: a recording may begin behind the boots."""
     network = meaning.Network(plan.project, with_names)
+    network.is_recorded = True
     for number, node in plan.wiring.nodes.items():
         for tpdo in pdo_numbers(node.device, TPDO):
             for index in (COMMUNICATION[TPDO] + tpdo, COMMUNICATION[TPDO] + 0x200 + tpdo):

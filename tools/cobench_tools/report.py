@@ -26,7 +26,7 @@ class Report:
         self.open = [finding for finding in findings if not finding.accepted]
         if all_boots is None:
             all_boots = boots.boots_of(trace.of_answer(answered.lines("trace")))
-        ends = {node: [boot.end for boot in all_boots.get(node, []) if boot.is_configured()] for node in answered.project.nodes}
+        ends = {node: [boot.end for boot in all_boots.get(node, []) if boot.is_configured()] for node in answered.project.booted}
         self.booted = {node: times[0] for node, times in sorted(ends.items()) if times}
 
     def count(self, severity: str) -> int:
@@ -45,9 +45,10 @@ class Report:
 
     def boots_text(self) -> str:
         """How many nodes booted, and when the last of them was configured."""
-        nodes = len(self.answered.project.nodes)
+        nodes = len(self.answered.project.booted)
         by = f" by {milliseconds(max(self.booted.values()))}" if self.booted else ""
-        return f"{len(self.booted)} of {counted(nodes, 'node')} booted{by}" if nodes else "no nodes"
+        none = "no nodes to boot" if self.answered.project.nodes else "no nodes"
+        return f"{len(self.booted)} of {counted(nodes, 'node')} booted{by}" if nodes else none
 
     def as_text(self) -> str:
         return "".join(f"{line}\n" for line in lines_of(self.open) + [self.summary()])

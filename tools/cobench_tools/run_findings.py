@@ -89,7 +89,7 @@ class RunFindings:
         """Whose heartbeat a consumer missed, and why that didn't come."""
         consumer = emergency.consumer
         moment = emergency.time
-        name = "the manager" if consumer.watched == self.project.manager[0] else self._name(consumer.watched)
+        name = self._name(consumer.watched)
         text = f": {CONSUMERS:04X}h:{consumer.sub:02X} waits {consumer.time // 1000} ms for {name}"
         boot = self._boot_at(consumer.watched, moment)
         if boot:
@@ -98,7 +98,9 @@ class RunFindings:
         return text + (f", and the bus was {full.words()}" if full else "")
 
     def _name(self, node):
-        return self.evidence.node_name(node) if node in self.project.nodes else f"node {node}"
+        if node in self.project.nodes:
+            return self.evidence.node_name(node)
+        return "the manager" if node == self.project.manager[0] else f"node {node}"
 
     def _boot_at(self, node, moment):
         """The boot of a node that goes on at a moment and is over later."""

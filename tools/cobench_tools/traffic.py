@@ -1,6 +1,7 @@
 """What a network sends once it is operational: each identifier, how long its frames are, and how often they come."""
 from . import matrix, values
 from .device import object_name
+from .project import PRODUCER_TIME
 from .responses import LONGEST_BUSY
 from .trace import has_stuff_bits
 from .wire_bits import exact_bits
@@ -118,9 +119,8 @@ def emergencies(network):
 
 def sdo(network):
     """One SDO frame of the manager, as long as there are: it may have started just before any other."""
-    nodes = sorted(network.nodes)[:1]
     manager = network.project.manager[0]
-    return [once(SDO + number, ("manager",), "SDO", manager, "one frame at a time") for number in nodes]
+    return [once(SDO + number, ("manager",), "SDO", manager, "one frame at a time") for number in network.project.booted[:1]]
 
 
 def once(identifier, part, name, sender, comes):
@@ -149,7 +149,7 @@ def heartbeats(network):
     """The heartbeats of the manager and of the nodes; an event may set a node's to come more often."""
     periods = {number: [time] for number, time in matrix.producers(network).items()}
     for event in network.project.events.values():
-        if event.kind == "set" and event.entry == (0x1017, 0) and event.time <= network.project.horizon:
+        if sets_heartbeat(network.project, event):
             periods.setdefault(event.node, []).append(values.number_of(UNSIGNED16, event.what, event.node) or 0)
     found = []
     for number, times in periods.items():
@@ -159,6 +159,12 @@ def heartbeats(network):
             found.append(Traffic(HEARTBEAT + number, part, f"heartbeat of {network.name(number)}", number, 1, period,
                                  f"each {time_text(period)}"))
     return found
+
+
+def sets_heartbeat(project, event):
+    """Whether an event sets how often a node sends its heartbeat, up to the horizon."""
+    is_set = event.kind == "set" and event.entry == PRODUCER_TIME and event.time <= project.horizon
+    return is_set and not project.is_idle(event)
 
 
 def pdo(network, tpdo):

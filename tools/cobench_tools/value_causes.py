@@ -4,11 +4,12 @@ import re
 from . import ini, reals, values
 from .data_types import NUMBERS, REALS, VISIBLE_STRING, type_name
 from .digits import hexadecimal
+from .project import PRODUCER_TIME
 from .safe_text import shortened
 from .wiring import COMMUNICATION, EXTENDED, MOST_PDOS, OFF, TPDO
 
 U8, U16, U32 = 0x05, 0x06, 0x07
-EXPLAINED = "E01", "E02", "E03", "E04", "E15", "E16", "W19", "W20", "W21"
+EXPLAINED = "E01", "E02", "E03", "E04", "E15", "E16", "W19", "W20", "W21", "W25", "W27"
 
 
 def why_no_value(kind, text, node):
@@ -55,13 +56,15 @@ class ValueCauses:
         if code not in EXPLAINED:
             return self.unexplained(what, int(rest[0]))
         if what == "event":
-            return self.event(code, int(rest[0]))
+            return self.idle(int(rest[0])) if code == "W25" else self.event(code, int(rest[0]))
         if what == "cob":
             return self.two_senders(hexadecimal(rest[0]))
         if what == "eds":
             return self.unused_line(rest[0], int(rest[1]))
+        if what == "node" and code == "W19":
+            return self.consumer(int(rest[0]), hexadecimal(rest[1]))
         if what == "node":
-            return self.consumer(int(rest[0]), hexadecimal(rest[1])) if code == "W19" else self.counter(int(rest[0]))
+            return self.other_heartbeat(int(rest[0])) if code == "W27" else self.counter(int(rest[0]))
         node, key = int(rest[0]), (hexadecimal(rest[1]), hexadecimal(rest[2]))
         return self.default(node, key) if what == "default" else self.param(code, node, key)
 
@@ -124,6 +127,28 @@ class ValueCauses:
         entry = f"{self.evidence.entry_name(event.node, event.entry)} of {self.evidence.node_name(event.node)}"
         return self.origins.place("event", number), f"event {number}", f"{entry}: {why}"
 
+    # The controller, the node that the manager runs in.
+
+    def idle(self, number):
+        """Why an event of the controller does nothing."""
+        event, name = self.project.events[number], self.evidence.node_name(self.project.controller)
+        text = f"power {event.what} of {name} does nothing: the manager runs in it, and its power isn't switched; nmt 129 resets its device"
+        if event.kind == "set":
+            entry = self.evidence.entry_name(event.node, event.entry)
+            text = f"{entry} of {name} isn't asked: the node's heartbeat is the manager's, {self.beats()} (HB_MS of manager)"
+        return self.origins.place("event", number), f"event {number}", text
+
+    def other_heartbeat(self, node):
+        """That the heartbeat time of the controller isn't the manager's."""
+        number = self.evidence.node(node).number_at(*PRODUCER_TIME, U16)
+        text = (f"{self.evidence.entry_name(node, PRODUCER_TIME)} is {number}, and the node is the manager, whose heartbeat comes "
+                f"{self.beats()}: a param with {self.project.manager[2]} would do, or {number} for HB_MS of manager")
+        return self.evidence.value_place(node, PRODUCER_TIME), self.evidence.node_name(node), text
+
+    def beats(self):
+        """How often the manager sends its heartbeat, in words."""
+        return f"each {self.project.manager[2]} ms" if self.project.manager[2] else "never"
+
     # Values of the configured nodes.
 
     def two_senders(self, identifier):
@@ -159,13 +184,16 @@ class ValueCauses:
         """Why a heartbeat consumer is of no use."""
         word = self.evidence.node(node).number_at(0x1016, sub, U32)
         watched, time = word >> 16 & 0xFF, word & 0xFFFF
-        text = f"{self.evidence.entry_name(node, (0x1016, sub))}: it waits {time} ms for {self.watched(watched)}"
+        text = f"{self.evidence.entry_name(node, (0x1016, sub))}: it waits {time} ms for {self.watched(watched, node)}"
         return self.evidence.value_place(node, (0x1016, sub)), self.evidence.node_name(node), text
 
-    def watched(self, number):
-        """How often a node that is watched sends its heartbeat, in words."""
+    def watched(self, number, by):
+        """How often a node that is watched by another sends its heartbeat, in words."""
+        if number == by == self.project.controller:
+            return "the node itself, which hears no heartbeat of its own"
         if number == self.project.manager[0]:
-            name, period = "the manager", self.project.manager[2]
+            is_node = number in self.project.nodes
+            name, period = self.evidence.node_name(number) if is_node else "the manager", self.project.manager[2]
         elif number in self.project.nodes:
             name, period = self.evidence.node_name(number), self.evidence.node(number).number_at(0x1017, 0, U16)
         else:

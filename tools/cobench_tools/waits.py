@@ -59,6 +59,11 @@ class Waits:
     def _default_clock(self, number, start):
         return Clock(start, 1000 * (self._default(number) or 0))
 
+    def _reset_clock(self, number, start):
+        """The heartbeat of a node begins anew; that of the controller is the manager's, and goes on."""
+        if number != self.network.project.controller:
+            self.clocks[number] = self._default_clock(number, start)
+
     def _default(self, number):
         """The heartbeat time that a node has by its data sheet."""
         entry = self.network.nodes[number].device.entries.get(PRODUCER)
@@ -125,6 +130,8 @@ class Waits:
         """The events of the scenario up to a time."""
         while self._events and self._events[-1].time <= until:
             event = self._events.pop()
+            if self.network.project.is_idle(event):
+                continue
             if event.kind == "power" and event.what == "on":
                 self.clocks[event.node] = self._default_clock(event.node, event.time)
             elif event.kind == "set" and event.entry == PRODUCER:
@@ -150,7 +157,7 @@ class Waits:
         if frame.identifier == 0 and len(data) == 2:
             nodes = [data[1]] if data[1] else list(self.network.nodes)
             for each in nodes if data[0] in RESETS else []:
-                self.clocks[each] = self._default_clock(each, frame.time)
+                self._reset_clock(each, frame.time)
             self._touch([one for one in self.seen if one.sender in nodes and data[0] == START], frame.time)
             self.last.clear()
         elif node in self.network.nodes and data[:4] == b"\x2b\x17\x10\x00":

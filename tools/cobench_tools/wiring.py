@@ -109,9 +109,10 @@ class Node:
 
     @functools.cached_property
     def watched(self):
-        """Whose heartbeats it watches, and for how many milliseconds: node and time of each."""
+        """Whose heartbeats it watches, and for how many milliseconds: node and time of each. It hears none of its own."""
         values = [self.number_at(0x1016, sub, 0x07) or 0 for sub in self.device.subs.get(0x1016, ()) if sub]
-        return [(value >> 16 & 0xFF, value & 0xFFFF) for value in values if value & 0xFFFF and value >> 16 & 0xFF]
+        return [(value >> 16 & 0xFF, value & 0xFFFF) for value in values
+                if value & 0xFFFF and value >> 16 & 0xFF not in (0, self.number)]
 
     def pdos(self, direction):
         """The PDOs of a direction that work, by number."""
@@ -189,7 +190,7 @@ class Wiring:
 
     def name(self, node):
         """The name of a node or the manager."""
-        return "manager" if node == self.project.manager[0] else self.project.nodes[node][0]
+        return self.project.nodes[node][0] if node in self.project.nodes else "manager"
 
     def message_of(self, tpdo):
         """The name of the message that a TPDO sends, None where the device has it by its defaults."""

@@ -2,6 +2,7 @@
 from . import tool
 from .forms import FORMS, form_of, wrong_word
 from .limits import beyond, not_allowed
+from .project import CONTROLLERS
 
 ALL = None      # no one word of it
 
@@ -54,7 +55,9 @@ def of_taken(first, kind, word, project):
     """Whether a word is that of another part."""
     if kind == "NAME":
         return any(name == word for name, _ in project.nodes.values())
-    return kind == "ID" and (int(word) == project.manager[0] or first == "manager" and int(word) in project.nodes)
+    if kind != "ID" or project.version >= CONTROLLERS:
+        return False
+    return int(word) == project.manager[0] or first == "manager" and int(word) in project.nodes
 
 
 def of_use(first, kind, word, project):

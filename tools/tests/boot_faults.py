@@ -139,7 +139,7 @@ def never_boots(recording):
     rest = recording.end - recording.frames[boots[-1]][0] if boots else 0
     if rest < START_OVER:
         return None
-    nodes = [node for node in recording.plan.nodes if recording.of(0x700 + node)]
+    nodes = [node for node in recording.plan.project.booted if recording.of(0x700 + node)]
     if len(nodes) < 2:
         return None
     node = recording.dice.one(nodes)
@@ -173,7 +173,7 @@ def emergency(recording):
 def goes_silent(recording):
     """A node is heard no more."""
     found = []
-    for node in recording.plan.nodes:
+    for node in recording.plan.project.booted:
         cyclic = [identifier for identifier, tpdo in recording.tpdos.items() if tpdo.node == node and tpdo.kind == 1]
         beats, period = recording.of(0x700 + node), recording.plan.nodes[node].heartbeat
         if cyclic and period and len(beats) > 2 and recording.of(cyclic[0]):

@@ -5,6 +5,7 @@
 --faults N    N logs of each kind of fault: it has to be told at its line, and nothing else
 --simulated N the machines of N networks as the simulation runs them with a fault, or with boots of another order and length
 --version V   takes the networks as scripts of that version
+--controller  has the manager of each run in one of its nodes: scripts of version 3
 """
 import argparse
 import os
@@ -35,15 +36,23 @@ ROUNDS, MOST_SHOWN = 4, 60
 
 
 def script_of(number):
-    """The script of a network, in the version that is asked for."""
+    """The script of a network, in the version that is asked for, and with the manager in one of its nodes where that is."""
     script = own_script_of(number)
     version = os.environ.get("COBTOOL_VERSION")
-    return in_version(script, version) if version else script
+    script = in_version(script, version) if version else script
+    return with_controller(script, number) if os.environ.get("COBTOOL_CONTROLLER") else script
 
 
 def in_version(script, version):
     """A script as one of another version."""
     return b"version %s\n" % version.encode() + re.sub(rb"(?m)^version .*\n", b"", script)
+
+
+def with_controller(script, number):
+    """A script as one of version 3 in which the manager runs in one of the nodes: the first, the last, or one between."""
+    nodes = re.findall(rb"(?m)^node (\d+) ", script)
+    node = nodes[(0, -1, len(nodes) // 2)[number % 3]]
+    return re.sub(rb"(?m)^manager \d+ ", b"manager %s " % node, in_version(script, "3"))
 
 
 def own_script_of(number):
@@ -131,8 +140,10 @@ def main():
     parser.add_argument("--of", type=int, default=100, help="plant them in so many networks, 100 without it")
     parser.add_argument("--kind", choices=list(log_faults.KINDS), action="append")
     parser.add_argument("--version", choices=("1", "2", "3"), help="of the scripts")
+    parser.add_argument("--controller", action="store_true", help="the manager runs in one of the nodes")
     options = parser.parse_args()
     os.environ["COBTOOL_VERSION"] = options.version or ""
+    os.environ["COBTOOL_CONTROLLER"] = "1" if options.controller else ""
     import simulated_judge
     program, wrong = real(), []
     with tempfile.TemporaryDirectory() as folder:

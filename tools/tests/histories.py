@@ -114,15 +114,16 @@ CompactSubObj=2
 
 
 class Draft:
-    """A script under way: what its parts are, from which its text is made."""
+    """A script under way: what its parts are, from which its text is made. With controllers it begins with version 3 and a node
+    that has the manager's number."""
 
-    def __init__(self, chance):
-        self.chance = chance
+    def __init__(self, chance, with_controllers=False):
+        self.chance, self.versions = chance, (2, 3, 3) if with_controllers else (1, 2)
         self.sheets = {"d": self.sheet(), "e": self.sheet()}
         self.nodes = {5: ("pump", "d"), 6: ("guard", "e")}
         self.params, self.messages, self.events, self.odd = {}, {}, {}, []
-        self.needs, self.version, self.counter = set(), 1, 0
-        self.manager, self.bitrate, self.horizon, self.sync = 127, 1000, 30000, 5000
+        self.needs, self.version, self.counter = set(), 3 if with_controllers else 1, 0
+        self.manager, self.bitrate, self.horizon, self.sync = 5 if with_controllers else 127, 1000, 30000, 5000
         for _ in range(8):
             self.change()
 
@@ -206,7 +207,9 @@ class Draft:
     def setting(self):
         self.manager, self.bitrate = self.chance.choice((127, 127, 6, 9)), self.chance.choice((1000, 1000, 500))
         self.horizon, self.sync = self.chance.choice((30000, 30000, 12000)), self.chance.choice((5000, 5000, 0, 1000))
-        self.version, self.counter = self.chance.choice((1, 2)), self.chance.choice((0, 0, 3))
+        self.version, self.counter = self.chance.choice(self.versions), self.chance.choice((0, 0, 3))
+        if self.version == 3:
+            self.manager = self.chance.choice((self.some_node(), self.some_node(), 127))
 
     def need(self):
         self.needs ^= {self.some_node()}
@@ -220,7 +223,7 @@ class Draft:
 
     def lines(self):
         """The commands; some data sheets stand in files beside the script."""
-        lines = ["version 2"] if self.version == 2 else []
+        lines = [f"version {self.version}"] if self.version > 1 else []
         lines += [f"bitrate {self.bitrate}", f"sync-counter {self.counter}"]
         for name, text in sorted(self.sheets.items()):
             lines += [f"eds {name} <{name}.eds"] if name == "d" else [f"eds {name} {text.count(chr(10))}\n{text.rstrip(chr(10))}"]
@@ -240,9 +243,9 @@ class Draft:
                 "d.eds": self.sheets.get("d", "").encode("cp1252")}
 
 
-def history(seed, saves):
+def history(seed, saves, with_controllers=False):
     """The files of each save of a history."""
-    draft = Draft(random.Random(seed))
+    draft = Draft(random.Random(seed), with_controllers)
     yield draft.files()
     for _ in range(saves):
         for _ in range(draft.chance.choice((1, 1, 1, 2, 5))):

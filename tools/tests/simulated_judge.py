@@ -58,7 +58,7 @@ class Tally:
 def without_power(number, program, tally):
     """Each node in turn has no power from the beginning on: nothing but that is reported, from power-on and from anywhere."""
     plan, _ = conform_judge.planned(number, program)
-    for node in plan.nodes:
+    for node in plan.project.booted:
         frames = simulated_faults.frames_of(simulated_faults.without_power(conform_judge.script_of(number), node), program)
         for name, each in parts(frames, Dice(f"{number} {node}")) if len(frames) > 2 else ():
             tally.add(f"no power, {name}", number, *judged(plan, each), ("never-seen", str(node)), [plan.name(node)])

@@ -238,6 +238,19 @@ def test_a_manager_that_answers_is_no_stranger():
     assert status == 0 and output.splitlines()[-1].endswith("  the manager"), output
 
 
+def test_scan_knows_the_node_that_is_the_manager():
+    """It is compared as the others are; its heartbeat shows another master, and its state."""
+    script = put(network(), b"version 3\n" + SCRIPT.replace(b"manager 127 ", b"manager 5 "))
+    pump, other = device(5), device(5)
+    other.entries[0x1018, 1].data = b"\1\0\0\0"
+    pump.entries[0x1017, 0].data = b"\x14\0"
+    output = on_bus([pump], "scan", script, "--cobench", recorded(), "--listen", "300", *SHORT)[1]
+    assert output.splitlines()[1].endswith("  pump, the manager") and "5     pre-operational  " in output, output
+    assert "another master is on the bus: it sends the heartbeat of the manager, node 5 (705h)" in output, output
+    output = on_bus([other], "scan", script, "--cobench", recorded(), "--listen", "0", *SHORT)[1]
+    assert "  pump, the manager; vendor 00000001h, and the data sheet has 0000029Ch" in output, output
+
+
 def test_scan_tells_two_devices_of_one_number():
     made = device()
     made.faults["all"] = bus_device.twice

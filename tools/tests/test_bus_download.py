@@ -107,6 +107,18 @@ def has_planned_frames(plan, rack):
     return True
 
 
+def test_the_node_that_is_the_manager_is_left_out_unless_it_is_named():
+    """The manager of the plan doesn't boot it, and neither does the command: all that it boots are booted then, mandatory ones too."""
+    path = script("manager 6 0 0 500", "need 5 mandatory", "need 6 mandatory", version=3)
+    status, output, faults, rack = run("download", devices(), path)
+    assert (status, faults) == (0, "") and output.endswith("started\nno errors; 1 of 1 node configured, 1 started\n"), (output, faults)
+    assert not rack.requests(6) and rack.commands() == [b"\1\5"], rack.frames[-3:]
+    status, output, faults, rack = run("download", devices(), path, "6")
+    assert status == 0 and output == "node 6 fan: 1 write confirmed and read back; started\nno errors; 1 of 1 node configured, 1 started\n", (output, faults)
+    put("net.txt", "".join(f"{line}\n" for line in ["version 3", "manager 6 0 0 500", "eds a <a.eds", "node 6 fan a"]).encode())
+    assert run("download", devices(), "net.txt")[:3] == (2, "", "cobtool: net.txt has no node but the manager\n")
+
+
 def test_the_requests_are_those_of_the_planned_run():
     """Worked out by hand for the pump: who it is, then its writes in order of the concise DCF; then what can be read, read back."""
     made, path = devices(), script()

@@ -69,9 +69,9 @@ def test_check_tells_of_receives_that_are_sooner_than_their_message():
 def test_check_passes_on_a_diagnostic_that_it_does_not_know():
     text = run("expand", drives("node 5 pump drive", "event 1 1000 set 5 1017 0 0"))[1] + b"diag\ntrace\ncdcf 5\n"
     replies = recorded_replies(text)
-    newer = stand_in(text, replies.replace(b"lines 0\n", b"lines 2\nW25 event 1\nW27 node 5\n", 1))
+    newer = stand_in(text, replies.replace(b"lines 0\n", b"lines 2\nW29 event 1\nW31 node 5\n", 1))
     output = run("check", "--cobench", newer, "net.txt")[1].decode()
-    assert "net.txt:10: warning: event 1: cobench says so [W25]\n" in output and "net.txt:9: warning: node 5 pump: cobench says so [W27]\n" in output, output
+    assert "net.txt:10: warning: event 1: cobench says so [W29]\n" in output and "net.txt:9: warning: node 5 pump: cobench says so [W31]\n" in output, output
 
 
 def test_check_accepts_diagnostics_of_version_3():

@@ -283,7 +283,7 @@ def test_a_save_with_another_version_reads_the_sheets_anew():
     assert bits == [32, None, None, 32]
     sheets = [dict(kept.sheets) for _ in range(2) if kept.evidence(answered())]
     assert sheets[0] == sheets[1], "and without a change they stay"
-    words = [run_words(answered(name).project, kept.sheets) for name in ("scales.txt", "two.txt")]
+    words = [run_words(answered(name).project, kept.sheets, {}) for name in ("scales.txt", "two.txt")]
     assert words[0] != words[1], "the page draws its frames anew"
 
 

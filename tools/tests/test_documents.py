@@ -94,7 +94,7 @@ def test_a_day_edits_the_example():
     alarms = [alarms_of("network.txt")]
     for old, changed in (edits[0], edits[2]):
         put("network.txt", script.replace(old, changed).encode())
-        assert told("check", "network.txt").startswith("no errors, no warnings; 4 of 4 nodes booted")
+        assert told("check", "network.txt").startswith("no errors, no warnings; 3 of 3 nodes booted")
         alarms.append(alarms_of("network.txt"))
     assert len(alarms[0]) == len(alarms[2]) == 1 and alarms[0][0] - alarms[2][0] in range(99_000, 101_000), alarms
 
@@ -115,6 +115,18 @@ def test_the_recording_has_three_faults_in_the_planned_run():
     assert [(number + 1, line) for number, (line, other) in enumerate(zip(lines, planned)) if line != other] == [
         (28, b"(0000000001.003052) can0 601#237D600280841E00"), (275, b"(0000000001.120142) can0 181#0637A8610000")]
     assert len(lines) == len(planned) == 428
+
+
+def test_the_network_with_a_controller_on_the_page_is_that_of_the_example():
+    """Its lines stand in the script, or in what `explain` prints, in their order; that of `check` is all that it prints."""
+    part = re.search(r"(?s)\n## The controller is the manager\n(.*?)\n## ", page("docs", "first_network.md")).group(1)
+    script, check, *traces = blocks_of(part)
+    assert set(script.splitlines()) <= set(file(EXAMPLES, "network.txt").decode().splitlines()), script
+    command, output = re.fullmatch(r"\$ tools/cobtool (.*)\n((?:.*\n)+)", check).groups()
+    assert told(*command.split()) == output
+    said = told("explain", "examples/network.txt").splitlines()
+    shown = [line for block in traces for line in block.splitlines() if line != ".."]
+    assert len(shown) == 13 and [line for line in said if line in shown] == shown, shown
 
 
 def test_the_trace_on_the_page_is_that_of_the_example():

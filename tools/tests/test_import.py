@@ -89,9 +89,19 @@ def test_import_of_pdos_that_a_sheet_has_on():
 
 def test_import_of_a_machine():
     os.chdir(kept_at("import"))
-    status, output, faults = run("import", *MACHINE)
+    status, output, faults = run("import", "--manager", "0", *MACHINE)
     assert status == 0 and output == kept("import/machine.txt"), output
     assert faults.encode() == kept("import/told.txt"), faults
+
+
+def test_import_of_a_machine_with_its_manager():
+    """Its controller says CANopenManager=1, which is no loss then; by version 3 the mapping of the valves serves as it is."""
+    os.chdir(kept_at("import"))
+    status, output, faults = run("import", *MACHINE)
+    assert status == 0 and b"\nversion 3\nbitrate 500\nmanager 1 10000 0 500\n" in output, output
+    assert b"\n# the manager runs in it (CANopenManager, 1005h)\nnode 1 PLC drive_v2\n" in output and b"\nsource Valves_1_8_2 1 6000 1\n" in output
+    assert b"\nparam 1 1005 0 0x40000080\nparam 1 1006 0 10000\n" in output, "no value of it is lost"
+    assert "CANopenManager" not in faults and "SYNC" not in faults, faults
 
 
 def test_import_puts_data_sheets_into_a_folder():
@@ -279,7 +289,7 @@ def test_import_names_what_it_drops_of_the_commissioning():
         "5.dcf:8: warning: the script has no word for what the commissioning section says besides: NetNumber=2 (line 8), "
         "LSS_SerialNumber=0x12 (line 11), other=x (line 12)\n")
     put("5.dcf", DCF % b"" + b"CANopenManager=1\n")
-    assert run("import", "5.dcf")[2].endswith("besides: CANopenManager=1 (line 8)\n")
+    assert run("import", "--manager", "0", "5.dcf")[2].endswith("besides: CANopenManager=1 (line 8)\n")
 
 
 def test_import_says_what_no_start_value_can_say():

@@ -13,7 +13,7 @@ def random_project(chance):
     """The lines that `project` prints of a random project in which much is named alike."""
     version, counter = chance.choice([1, 2, 3]), chance.choice([0, 0, 4, 240])
     nodes = dict(zip(chance.sample(NODES, chance.randint(0, 4)), chance.sample(NAMES, 5)))
-    manager = chance.choice([each for each in [*NODES, 127] if each not in nodes])
+    manager = chance.choice([each for each in [*NODES, 127] if version > 2 or each not in nodes])
     sheets = chance.sample(SHEETS, chance.randint(1, 4))
     lines = [f"version {version}"] if version > 1 else []
     lines += [f"bitrate {chance.choice([250, 1000])}", f"horizon {chance.choice([1000, 20000])}", f"manager {manager} {chance.choice([0, 1000])} 0 500"]
@@ -103,6 +103,16 @@ def test_the_manager_and_a_node_change_places():
     start, sheet = ["bitrate 1000", "horizon 1000000"], ["eds d 1", "[2000]"]
     assert leads(start + ["manager 127 0 0 500"] + sheet + ["node 1 a d"], start + ["manager 1 0 0 500"] + sheet + ["node 127 a d"]) == [
         "drop-node 1", "manager 1 0 0 500", "node 127 a d"]
+
+
+def test_a_node_becomes_the_controller_and_another_node_again():
+    """From version 2 to version 3 the version goes before the manager's number, and back behind it."""
+    rest = ["eds d 1", "[2000]", "node 1 a d"]
+    old, new = (["bitrate 1000", "horizon 1000000", f"manager {number} 0 0 500"] + rest for number in (127, 1))
+    new[:0] = ["version 3"]
+    assert leads(old, new) == ["version 3", "manager 1 0 0 500"] and leads(new, old) == ["manager 127 0 0 500", "version 1"]
+    assert leads(["version 2"] + old, new) == ["version 3", "manager 1 0 0 500"]
+    assert leads(new, ["version 2"] + old) == ["manager 127 0 0 500", "version 2"] and leads(new, ["version 3"] + old) == ["manager 127 0 0 500"]
 
 
 def test_all_data_sheets_are_exchanged_where_no_more_can_be_there():

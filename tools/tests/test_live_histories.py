@@ -16,6 +16,8 @@ from helper import in_parallel, kept_at, put, real
 from histories import history
 from live_scene import sorts_of, trace_of, window_of
 
+# Histories, by seed and saves, in which a node becomes the controller, one does in a version that has none, and one is it no more.
+CONTROLLERS = (4, 3), (10, 2), (14, 3)
 KEPT = [sys.executable, "-S", "-E", kept_at("open_stand_in"), kept_at(os.path.join("live", "histories"))]
 
 
@@ -81,11 +83,11 @@ def is_what_cobench_answers(items, follower, program):
     assert sum(told) == refused or max(told) > 8 and sum(told) < refused
 
 
-def is_followed(seed, program, saves):
+def is_followed(seed, program, saves, with_controllers=False):
     """A history of saves: after each the page has what is answered afresh; gives how many saves went as edits."""
     seen = Seen(program)
     try:
-        for files in history(seed, saves):
+        for files in history(seed, saves, with_controllers):
             for name, data in files.items():
                 put(name, data)
             items = seen.look()
@@ -113,6 +115,10 @@ def test_kept_histories_are_followed():
     assert [is_followed(seed, KEPT, 3) for seed in (1, 2, 3)] == [1, 2, 3]
 
 
+def test_kept_histories_with_controllers_are_followed():
+    assert [is_followed(seed, KEPT, saves, True) for seed, saves in CONTROLLERS] == [saves for _, saves in CONTROLLERS]
+
+
 def test_kept_histories_are_followed_in_parts():
     with in_parts() as answered:
         assert [is_followed(seed, KEPT, 3) for seed in (1, 2, 3)] == [1, 2, 3]
@@ -123,7 +129,7 @@ def generated_history(seed):
     """A history that a cobench answers; every second one has its runs in parts."""
     try:
         with in_parts() if seed % 2 else contextlib.nullcontext():
-            return is_followed(seed, shlex.split(real()), 8)
+            return is_followed(seed, shlex.split(real()), 8, seed % 3 == 2)
     except AssertionError as error:
         return f"{seed}: {error}"
 

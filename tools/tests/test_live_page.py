@@ -159,6 +159,27 @@ def test_frames_are_listed_and_filtered():
         assert text(page, ".tip").startswith("40.110 ms · PDO · pump"), text(page, ".tip")
 
 
+def test_a_node_that_becomes_the_manager_has_one_lane_and_nobody_boots_it():
+    """The lane of the manager that there was is struck through until the next save."""
+    with opened() as live:
+        page = live.page
+        live.save(b"eds drive", b"version 3\neds drive")
+        live.save(b"manager 127", b"manager 6")
+        lanes = "live.run.timeline.trace.lanes.map(lane => [lane.key, lane.name, lane.title, lane.gone])"
+        assert page.value(lanes) == [[6, "guard", "manager 6", False], [5, "pump", "node 5", False], [127, "manager", "node 127", True]]
+        assert text(page, ".summary").startswith("Nothing is wrong. 1 of 1 node booted by ")
+        page.value("live.tabs.choose(1)")
+        page.settle()
+        nodes = page.value("""[...document.querySelectorAll('.node')].map(node => [...node.querySelectorAll('.number, b, .state, .booted, .sheet')]
+            .map(each => each.innerText.trim()).concat(node.classList.contains('unconfigured')))""")
+        assert nodes[1] == ["6", "guard", "operational", "the manager", "drive", False], nodes
+        assert nodes[0][:3] == ["5", "pump", "operational"] and nodes[0][3].startswith("configured at ") and nodes[0][4:] == ["drive", False], nodes
+        live.save(b"set 5 6041 0 7", b"set 5 6041 0 9")
+        assert page.value(lanes) == [[6, "guard", "manager 6", False], [5, "pump", "node 5", False]]
+        live.save(b"manager 6", b"manager 127")
+        assert "not configured" not in page.value("document.querySelector('.nodes').innerText") and page.value(lanes)[0][:3] == [127, "manager", "node 127"]
+
+
 def test_what_is_wrong_is_told_with_its_line():
     with opened() as live:
         page = live.page

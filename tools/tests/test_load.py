@@ -271,8 +271,9 @@ def durations(size, bit, is_extended, is_stuffed):
     return (counted + 13 + (counted - 1) // 4 * is_stuffed) * bit
 
 
-def expected_waits(whole, bit, foreign, is_stuffed):
-    """The waits of a network's own frames: with an emergency of each node, one SDO frame, and these frames of others."""
+def expected_waits(whole, bit, foreign, is_stuffed, sync_bits):
+    """The waits of a network's own frames: with an emergency of each node, one SDO frame, and these frames of others; a SYNC has
+    so many bits at the least."""
     key = "time_stuffed_us" if is_stuffed else "time_us"
     own = [each for each in whole["frames"] if not each["once"] and not each["foreign"]]
     streams = [((each["identifier"], 0), each[key], each["period_us"], 0) for each in own]
@@ -281,7 +282,7 @@ def expected_waits(whole, bit, foreign, is_stuffed):
     streams += [(priority, durations(size, bit, is_extended, is_stuffed), period, jitter)
                 for priority, size, is_extended, period, jitter in foreign]
     sync = next((place for place, each in enumerate(own) if each["identifier"] == 0x80), None)
-    late = second_opinion(streams, bit, sync) - durations(own[sync]["bytes"], bit, False, False) if sync is not None else 0
+    late = second_opinion(streams, bit, sync) - sync_bits * bit if sync is not None else 0
     for place, each in enumerate(own):
         if each["jitter_us"]:
             assert each["jitter_us"] == late or not is_stuffed, each
@@ -289,7 +290,7 @@ def expected_waits(whole, bit, foreign, is_stuffed):
     return {each["frames"]: second_opinion(streams, bit, place) for place, each in enumerate(own)}
 
 
-def same_as_the_second(words, given, bit, foreign=()):
+def same_as_the_second(words, given, bit, foreign=(), sync_bits=47):
     """The waits of `load` are those of the second program."""
     status, output, faults = load("--json", *words, given=given)
     assert status in (0, 1), faults
@@ -297,14 +298,17 @@ def same_as_the_second(words, given, bit, foreign=()):
     for is_stuffed, key in ((False, "wait_us"), (True, "wait_stuffed_us")):
         found = {each["frames"]: each[key] for each in whole["frames"] if not each["once"] and not each["foreign"]}
         assert None not in found.values() and len(found) >= 7, found
-        assert found == expected_waits(whole, bit, foreign, is_stuffed), (is_stuffed, found)
+        assert found == expected_waits(whole, bit, foreign, is_stuffed, sync_bits), (is_stuffed, found)
     return whole
 
 
 def test_a_second_program_finds_the_same_waits():
+    """The last network is of version 3, in which a SYNC without a counter has its four stuff bits; its manager is one of the nodes."""
     same_as_the_second(("--assume", "5000"), example("servo_axes.txt"), 4)
     same_as_the_second(("--assume", "7000"), example("io_modules.txt"), 4)
-    same_as_the_second(("--assume", "3000"), example("network.txt"), 2)
+    whole = same_as_the_second(("--assume", "3000"), example("network.txt"), 2, sync_bits=51)
+    names = [each["frames"] for each in whole["frames"] if each["sender"] == 10]
+    assert names == ["SYNC", "EMCY of plc", "control", "outputs", "SDO", "heartbeat of plc"], names
 
 
 def test_foreign_frames_that_the_user_names():

@@ -169,6 +169,29 @@ def test_another_name_goes_into_all_files_or_is_refused():
             assert why in editor.refused("textDocument/rename", {**place, "newName": name}), name
 
 
+def test_a_node_may_have_the_manager_s_number_in_version_3():
+    text = "version 3\n" + scene() + "node \n"
+    node = row_of(text, "node 5")
+    with Editor() as editor:
+        editor.open(NAME, text)
+        assert labels(editor, len(text.split("\n")) - 2, 5) == ["1", "127", "5", "6"]
+        changes = editor.at("rename", NAME, node, 5, newName="127")["changes"]
+        assert [len(each) for each in changes.values()] == [5], changes
+
+
+def test_the_controller_is_said_and_what_is_wrong_with_it_stands_at_its_words():
+    """The manager runs in the guard, whose 1017h is 70 ms by a parameter, and whose power an event would switch."""
+    text = "version 3\n" + scene().replace("manager 127 10000 0", "manager 6 10000 50") + "param 6 1017 0 70\nevent 2 9000 power 6 off\n"
+    with Editor() as editor:
+        wrong = sorted(each[:5] for each in editor.open(NAME, text))
+        assert wrong == [(row_of(text, "param 6 1017"), 15, 17, 2, "W27"), (row_of(text, "event 2"), 13, 24, 2, "W25")], wrong
+        editor.until(lambda: True)
+        said = hovered(editor, row_of(text, "node 6"), 6)
+        assert "data sheet drive, manager" in said and "operational at the end of the run, 60.000 ms; nobody boots it" in said, said
+        said = hovered(editor, row_of(text, "event 2"), 15)
+        assert "**W25** The event does nothing: the manager runs in the controller" in said, said
+
+
 def test_symbols_are_the_parts_of_the_script():
     text = scene()
     with Editor() as editor:

@@ -1,4 +1,5 @@
-"""A machine with PDOs as vendors make them: its DCFs imported, and exported again by a script of version 3.
+"""A machine with PDOs as vendors make them: its DCFs imported, and exported again by a script of version 3, in which the manager
+has a number of its own (test_master.py has it run in the controller).
 
 What the files say is read by dcf_reader, which is written apart; python3-canmatrix reads the DBC where that is installed.
 """
@@ -21,8 +22,8 @@ COMMUNICATION = {0x1400: (2, 5), 0x1800: (2, 3, 5)}
 def imported():
     """The script that is made of the DCFs, in the folder of this test, and the DCFs by their nodes."""
     names = machine_files.write_all()
-    status, made, faults = run("import", "--sheets", "sheets", *names.values())
-    assert (status, faults) == (0, ""), faults
+    status, made, faults = run("import", "--manager", "0", "--sheets", "sheets", *names.values())
+    assert (status, faults) == (0, "10_controller.dcf:80: warning: it sends SYNC (1005h), and by the script the manager does: both do\n"), faults
     put("made.txt", made + b"horizon 520000\n")
     return made.decode(), {node: read(name) for node, name in names.items()}
 

@@ -28,12 +28,12 @@ def test_names_of_several_receivers():
 
 def test_explain_names_them():
     lines = output("explain", "--names", "--cobench", recorded(), NETWORK).splitlines()
-    assert ("0000170474 18A control: A580h:01 Out_u16 1 (Controlword of winder)=000Fh A640h:01 Out_i32 1 (Target position [inc] of "
+    assert ("0000170520 18A control: A580h:01 Out_u16 1 (Controlword of winder)=000Fh A640h:01 Out_i32 1 (Target position [inc] of "
             "winder)=100000") in lines
     assert not any("inputs: 6000h:01" in line and "(" in line for line in lines), "the sender's name says enough"
-    assert "0000170474 18A control: A580h:01=000Fh A640h:01=100000" in output("explain", "--cobench", recorded(), NETWORK).splitlines()
+    assert "0000170520 18A control: A580h:01=000Fh A640h:01=100000" in output("explain", "--cobench", recorded(), NETWORK).splitlines()
     rows = output("explain", "--signals", "--cobench", recorded(), NETWORK).splitlines()
-    assert "170474,18A,10,plc,control,A640h:01,Out_i32 1 (Target position [inc] of winder),100000" in rows
+    assert "170520,18A,10,plc,control,A640h:01,Out_i32 1 (Target position [inc] of winder),100000" in rows
 
 
 def test_the_dbc_names_them_where_that_is_asked_for():

@@ -10,7 +10,6 @@ REFERENCE = os.path.join(ROOT, "reference")
 sys.path.append(REFERENCE)
 
 from rules.session import replies_to
-from rules.versions import PROVED
 
 
 def compare(*words):
@@ -52,18 +51,9 @@ def test_the_period_of_time_is_counted_as_what_the_roster_has():
     assert work(b"time-period 1000 5", b"time-period 0 5") == b"work 6 1005\n"
 
 
-def test_the_program_answers_as_the_proved_cobench_does():
-    """With the types of version 3, and without a controller."""
-    put("script", b"version 3\neds a 2\n[2000]\nDataType=8\nnode 127 c a\nnode 5 n a\nparam 5 2000 0 1.5\ndiag\nhorizon 900\ntrace\n")
-    whole, proved = (program(*words, "--script", "script")[1].split(b"\n") for words in ([], ["--proved"]))
-    assert whole[2] == b"ok" and proved[2] == b"refused 5 Taken" and whole[5] == proved[5] == b"lines 0", (whole, proved)
-    assert all(b"0000000180 605 [8] 23 00 20 00 00 00 C0 3F" in lines for lines in (whole, proved)), (whole, proved)
-
-
 def test_types_of_version_3_are_modelled_in_it_alone():
     put("script", b"version 3\neds a 2\n[2000]\nDataType=8\nnode 5 n a\nparam 5 2000 0 1.5\ndiag\nversion 2\ndiag\nversion 3\ndiag\n")
-    for words in ([], ["--proved"]):
-        assert program(*words, "--script", "script")[1] == b"ok\n" * 4 + b"lines 0\nok\nlines 1\nE16 param 5 2000 00\nok\nlines 0\n"
+    assert program("--script", "script")[1] == b"ok\n" * 4 + b"lines 0\nok\nlines 1\nE16 param 5 2000 00\nok\nlines 0\n"
 
 
 def test_a_row_that_is_answered_otherwise_is_reported_and_kept():
@@ -77,7 +67,7 @@ def test_a_row_that_is_answered_otherwise_is_reported_and_kept():
 def test_the_plain_program_answers_the_stored_sessions():
     stored = sessions("stdout")
     for title, text in sessions("stdin").items():
-        assert b"".join(replies_to(text, PROVED)) == re.sub(rb"(?m)^> .*\n", b"", stored[title]), title
+        assert b"".join(replies_to(text)) == re.sub(rb"(?m)^> .*\n", b"", stored[title]), title
 
 
 def test_cobench_answers_generated_scripts_as_the_plain_program_does():

@@ -197,6 +197,12 @@ def test_pdos_of_all_data_types_are_as_cobench_has_them():
     assert faults > 10 and writes > 100, (faults, writes)
 
 
+def test_plans_with_a_controller_are_as_cobench_has_them():
+    """The same where the manager runs in a node; some of the scripts have its 1017h:00 in a PDO."""
+    faults, writes = plans_of_version_3("version3", (4, 6, 8, 10, 14, 15, 20, 24, 30, 31, 35))
+    assert faults > 10 and writes > 100, (faults, writes)
+
+
 def test_faults_of_messages_are_those_of_cobench():
     """plan.py: `diag` has the faults of messages that the plan finds, in generated networks of which a third is damaged."""
     count = 0

@@ -1,10 +1,13 @@
 -- Events, one after another.
-use Rattle.std.proofs.Common.{◌≡◌, ℕ, ◌+◌, ◌<◌, ◌≤◌, List, ◌∷◌, ◌++◌, refl, sym, ap, ◌∙◌, length, get_or, map, drop}
+use Rattle.std.proofs.Common.{◌≡◌, ◌≢◌, ℕ, ◌+◌, ◌<◌, ◌≤◌, List, ◌∷◌, ◌++◌, refl, sym, ap, ◌∙◌, length, get_or, map, drop}
 use Rattle.std.proofs.Common.{length-append, arith}
-use Rattle.std.specs.Prelude.{Bool}
+use Rattle.std.specs.Prelude.{◌==◌, Bool, true, false}
+use Rattle.std.proofs.lemmas.Bool.Decides.{nat_tests}
 use Rattle.std.proofs.lemmas.List.{append-nil, drop_all, drop_more}
-use Rattle.image_parts.specs.Asking.{Asking, Answer, Seen, outcome, reads, after_reads}
-use Rattle.image_parts.proofs.QuestionLemmas.{outcome_bind, reads_bind, followed_bind, followed_last}
+use Rattle.image_parts.specs.Asking.{Asking, Answer, Seen, bind, outcome, reads, after_reads}
+use Rattle.image_parts.specs.Record.{GoesBy}
+use Rattle.image_parts.proofs.QuestionLemmas.{outcome_bind, reads_bind, followed_bind}
+use Rattle.image_parts.proofs.RecordLemmas.{asked_last, goes_none}
 use Rattle.co_device.specs.Device.{Device}
 use Rattle.image_parts.specs.Contents.{Content, Image}
 use Rattle.image_parts.specs.declared.part.Part.{Part}
@@ -14,6 +17,21 @@ use Rattle.co_scenario.specs.declared.timed_step.TimedStep.{TimedStep}
 use Rattle.nmt_boot.specs.Manager.{Manager, with_command}
 use Rattle.image_parts.specs.Each.{each}
 use Rattle.bus_devices.specs.Events.{after_events_at, after_event, after_power_at, after_set_at}
+
+-- ---- numbers
+
+itself : (number node : ℕ) → number ≡ node → (number == node) ≡ true
+itself number node same = grind (arith, nat_tests)
+
+pub another : (number node : ℕ) → number ≢ node → (number == node) ≡ false
+another number node differ = by (number == node) refl
+  where
+    same : (number == node) ≡ true → number ≡ node
+    same e = grind (arith, nat_tests)
+
+    by : (b : Bool) → (number == node) ≡ b → (number == node) ≡ false
+    by true e = absurd (differ (same e))
+    by false e = e
 
 -- ---- one event
 
@@ -29,22 +47,38 @@ module _ (t : ℕ) (ds : List Device) (m : Manager) where
   happens_nmt node command = refl
 
   module _ (node : ℕ) (on : Bool) where
-    pub outcome_power : (image : Image) → outcome (after_event t (Power node on) (ds, m)) image
-        ≡ (outcome (each (after_power_at t node on) ds) image, m)
+    -- the power of the device that the manager runs in isn't switched
+    pub happens_own : (m.number == node) ≡ true → after_event t (Power node on) (ds, m) ≡ Answer (ds, m)
     unfolding after_event
-    outcome_power image = outcome_bind (each (after_power_at t node on) ds) (λ after. Answer (after, m)) image
+    happens_own e = rw e refl
 
-    pub reads_power : (image : Image) → reads (after_event t (Power node on) (ds, m)) image
-        ≡ reads (each (after_power_at t node on) ds) image
+    -- that of another is
+    happens_other : (m.number == node) ≡ false → after_event t (Power node on) (ds, m)
+        ≡ bind (each (after_power_at t node on) ds) (λ after. Answer (after, m))
     unfolding after_event
-    reads_power image = reads_bind (each (after_power_at t node on) ds) (λ after. Answer (after, m)) image
-        ∙ append-nil _
+    happens_other e = rw e refl
 
-    pub followed_power : (seen : Seen Part Content)
-        → after_reads (after_event t (Power node on) (ds, m)) seen
-        ≡ after_reads (each (after_power_at t node on) ds) seen
-    unfolding after_event
-    followed_power seen = followed_last (each (after_power_at t node on) ds) (λ after. (after, m)) seen
+    pub outcome_power : (m.number == node) ≡ false → (image : Image)
+        → outcome (after_event t (Power node on) (ds, m)) image ≡ (outcome (each (after_power_at t node on) ds) image, m)
+    outcome_power e image = ap (λ (event : Asking Part Content (List Device × Manager)). outcome event image)
+        (happens_other e)
+        ∙ outcome_bind (each (after_power_at t node on) ds) (λ after. Answer (after, m)) image
+
+    module _ {X : Type 0} (seen : X → Seen Part Content) (asks : X → ℕ) where
+      pub own_goes : (x : X) → m.number ≡ node
+          → GoesBy (after_event t (Power node on) (ds, m)) (ds, m) seen asks x x
+      own_goes x e = goes_none (after_event t (Power node on) (ds, m)) (ds, m) seen asks x
+          (happens_own (itself m.number node e))
+
+      pub other_goes : (x y : X) (after : List Device) → m.number ≢ node
+          → GoesBy (each (after_power_at t node on) ds) after seen asks x y
+          → GoesBy (after_event t (Power node on) (ds, m)) (after, m) seen asks x y
+      other_goes x y after e h = record {
+        state = ap (λ (devices : List Device). (devices, m)) h.state
+            ∙ sym (outcome_power (another m.number node e) (seen x).image);
+        asked = rw (happens_other (another m.number node e)) (asked_last (each (after_power_at t node on) ds)
+            (λ (devices : List Device). (devices, m)) (seen x) (seen y) (asks x) (asks y) h.asked);
+      }
 
 -- nothing is read
 nothing_read : {A : Type 0} (a : A) (seen : Seen Part Content) → seen ≡ after_reads (Answer a) seen
@@ -62,7 +96,7 @@ unfolding after_event
 nmt_noted t nodes node command seen = nothing_read {A = List Device × Manager}
     (nodes.0, with_command command node nodes.1) seen
 
-pub ruleset happens_laws = (happens_set, happens_nmt, outcome_power, reads_power, followed_power, set_noted, nmt_noted)
+pub ruleset happens_laws = (happens_set, happens_nmt, set_noted, nmt_noted)
 
 -- ---- one more event
 

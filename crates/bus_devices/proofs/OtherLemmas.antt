@@ -1,7 +1,6 @@
 -- An event changes its node alone.
-use Rattle.std.proofs.Common.{◌≡◌, ◌≢◌, ℕ, zero, suc, Bool, true, false, List, [], ◌∷◌, map, refl, ap, ◌∙◌, arith}
+use Rattle.std.proofs.Common.{◌≡◌, ◌≢◌, ℕ, zero, suc, Bool, true, false, List, [], ◌∷◌, map, refl, ap, ◌∙◌}
 use Rattle.std.specs.Prelude.{◌==◌}
-use Rattle.std.proofs.lemmas.Bool.Decides.{nat_tests}
 use Rattle.image_parts.specs.Asking.{Asking, outcome}
 use Rattle.co_device.specs.Device.{Device}
 use Rattle.image_parts.specs.Contents.{Content, Image}
@@ -14,17 +13,7 @@ use Rattle.bus_devices.specs.Events.{after_event, after_power_at, after_set_at}
 use Rattle.bus_devices.specs.Others.{OthersStay}
 use Rattle.bus_devices.specs.Places.{device_at}
 use Rattle.image_parts.proofs.EachLemmas.{outcome_each}
-use Rattle.bus_devices.proofs.EventLemmas.{outcome_power}
-
-another : (number node : ℕ) → number ≢ node → (number == node) ≡ false
-another number node differ = by (number == node) refl
-  where
-    same : (number == node) ≡ true → number ≡ node
-    same e = grind (arith, nat_tests)
-
-    by : (b : Bool) → (number == node) ≡ b → (number == node) ≡ false
-    by true e = absurd (differ (same e))
-    by false e = e
+use Rattle.bus_devices.proofs.EventLemmas.{another, happens_own, outcome_power}
 
 -- what leaves each of them leaves those of a list
 module _ (node : ℕ) (f : Device → Device) (leaves : (d : Device) → d.number ≢ node → f d ≡ d) where
@@ -63,14 +52,23 @@ module _ (image : Image) (t : ℕ) (ds : List Device) (m : Manager) where
 
   pub power_others : (node : ℕ) (on : Bool)
       → OthersStay node ds (outcome (after_event t (Power node on) (ds, m)) image).0
-  power_others node on i differ =
-      ap (λ (nodes : List Device × Manager). device_at nodes.0 i) (outcome_power t ds m node on image)
-      ∙ ap (λ (after : List Device). device_at after i) (each_is image (after_power_at t node on) ds)
-      ∙ others node (λ (d : Device). outcome (after_power_at t node on d) image)
-      (power_leaves image t node on) ds i differ
+  power_others node on i differ = by (m.number == node) refl
+    where
+      by : (own : Bool) → (m.number == node) ≡ own
+          → device_at (outcome (after_event t (Power node on) (ds, m)) image).0 i ≡ device_at ds i
+      by true e = rw (happens_own t ds m node on e) refl
+      by false e =
+          ap (λ (nodes : List Device × Manager). device_at nodes.0 i) (outcome_power t ds m node on e image)
+          ∙ ap (λ (after : List Device). device_at after i) (each_is image (after_power_at t node on) ds)
+          ∙ others node (λ (d : Device). outcome (after_power_at t node on d) image)
+          (power_leaves image t node on) ds i differ
 
   pub power_manager : (node : ℕ) (on : Bool) → (outcome (after_event t (Power node on) (ds, m)) image).1 ≡ m
-  power_manager node on = ap (λ (nodes : List Device × Manager). nodes.1) (outcome_power t ds m node on image)
+  power_manager node on = by (m.number == node) refl
+    where
+      by : (own : Bool) → (m.number == node) ≡ own → (outcome (after_event t (Power node on) (ds, m)) image).1 ≡ m
+      by true e = rw (happens_own t ds m node on e) refl
+      by false e = ap (λ (nodes : List Device × Manager). nodes.1) (outcome_power t ds m node on e image)
 
   pub command_devices : (node : ℕ) (command : NmtCommand)
       → (outcome (after_event t (Nmt node command) (ds, m)) image).0 ≡ ds

@@ -1,12 +1,13 @@
 -- What is known of devices, one by one.
 use Rattle.std.proofs.Common.{◌≡◌, ℕ, zero, suc, ◌+◌, ◌<◌, ◌≤◌, List, [], ◌∷◌, ◌++◌, length, take, drop, get_or, set}
-use Rattle.std.proofs.Common.{Option, false, refl, sym, ap, ◌∙◌, subst, arith}
+use Rattle.std.proofs.Common.{Option, false, refl, sym, ap, subst, arith}
 use Rattle.std.proofs.lemmas.List.{append-nil, take_all, take_more}
 use Rattle.bus_devices.specs.Blocks.{AreBlocksOf, AreEachOf, AreEightsOf, AreKnown, AreOutlooksOf, FollowsFromBlocks}
 use Rattle.bus_devices.specs.Blocks.{FollowsFromEach, IsAlarmOf, IsBestOf, IsBlockOf, IsOutlookOf, alarms_of, outlooks_of}
 use Rattle.bus_devices.specs.declared.block.Block.{Block}
 use Rattle.bus_devices.specs.declared.outlook.Outlook.{Outlook}
 use Rattle.bus_devices.proofs.SenderLemmas.{IsBest, best_of_both}
+use Rattle.can_frame.specs.Senders.{device_sender}
 use Rattle.can_frame.specs.Winner.{contenders_of, lower, IsWinner}
 use Rattle.can_frame.specs.declared.contender.Contender.{Contender}
 use Rattle.co_device.specs.Device.{Device, without_power}
@@ -17,11 +18,11 @@ use Rattle.device_agenda.specs.LowBytes.{AreDeafBeyond, IsDeafBeyond}
 use Rattle.device_agenda.specs.declared.low_bytes.LowBytes.{LowBytes}
 
 -- of one device: its own winner wins
-pub best_of_one : (d : Device) (o : Option Contender) → IsWinner (contenders_of (d.number, d.waiting)) o
+pub best_of_one : (d : Device) (o : Option Contender) → IsWinner (contenders_of (device_sender d.number, d.waiting)) o
     → IsBest o (d ∷ [])
 best_of_one d o h =
     subst (λ (cs : List Contender). IsWinner cs o)
-    (sym (append-nil {A = Contender} (contenders_of (d.number, d.waiting)))) h
+    (sym (append-nil {A = Contender} (contenders_of (device_sender d.number, d.waiting)))) h
 
 module _ (Of : Outlook → List Device → Type 0) where
   -- there is as much of it as there are devices

@@ -9,6 +9,7 @@ use Rattle.std.proofs.Math.Seq.{take-add}
 use Rattle.std.proofs.lemmas.List.Concat.{flat_map-append}
 use Rattle.std.proofs.lemmas.List.Elements.{All-contains, Contains-append_left, Contains-append_right}
 use Rattle.std.proofs.lemmas.List.Quantifiers.{position-Some}
+use Rattle.can_frame.specs.Senders.{device_sender}
 use Rattle.can_frame.specs.Winner.{contenders, contenders_of, is_below, lower, winner_of, IsWinner}
 use Rattle.can_frame.specs.declared.contender.Contender.{Contender}
 use Rattle.can_frame.specs.declared.waiting.Waiting.{Waiting}
@@ -29,7 +30,7 @@ lower_none (Some c) = refl
 pub of_both : (xs ys : List Device) → contenders (device_lists (xs ++ ys))
     ≡ contenders (device_lists xs) ++ contenders (device_lists ys)
 of_both xs ys =
-    let list_of : Device → ℕ × List Waiting = λ d. (d.number, d.waiting) in
+    let list_of : Device → ℕ × List Waiting = λ d. (device_sender d.number, d.waiting) in
     ap contenders (map-append list_of xs ys) ∙ flat_map-append contenders_of (device_lists xs) (device_lists ys)
 
 -- ---- the first place of two lists
@@ -138,11 +139,11 @@ is_same m n e = grind (arith, nat_tests)
 
 contender_is : (b c : Contender) → is_contender c (Some b) ≡ true → b ≡ c
 contender_is b c e =
-    let same = all_three (b.id == c.id) (b.node == c.node) (b.place == c.place) e in
-    let made : ℕ → ℕ → ℕ → Contender = λ id node place. record { id = id; node = node; place = place } in
-    ap (λ id. made id b.node b.place) (is_same b.id c.id same.0)
-    ∙ ap (λ node. made c.id node b.place) (is_same b.node c.node same.1.0)
-    ∙ ap (λ place. made c.id c.node place) (is_same b.place c.place same.1.1)
+    let same = all_three (b.id == c.id) (b.sender == c.sender) (b.place == c.place) e in
+    let made : ℕ → ℕ → ℕ → Contender = λ id node place. record { id = id; sender = node; place = place } in
+    ap (λ id. made id b.sender b.place) (is_same b.id c.id same.0)
+    ∙ ap (λ node. made c.id node b.place) (is_same b.sender c.sender same.1.0)
+    ∙ ap (λ place. made c.id c.sender place) (is_same b.place c.place same.1.1)
 
 not_true : (x : Bool) → (x ≡ true → ⊥) → x ≡ false
 not_true true h = absurd (h refl)
@@ -154,16 +155,16 @@ module _ (c : Contender) where
   winner_contains cs None h e = absurd cc
   winner_contains cs (Some b) h e = subst (Contains cs) (contender_is b c e) h.0
 
-  contender_waits : (d : Device) → contends_with c d ≡ true → Contains (contenders_of (d.number, d.waiting)) c
+  contender_waits : (d : Device) → contends_with c d ≡ true → Contains (contenders_of (device_sender d.number, d.waiting)) c
   contender_waits d e =
-      let cs : List Contender = contenders_of (d.number, d.waiting) in
+      let cs : List Contender = contenders_of (device_sender d.number, d.waiting) in
       winner_contains cs (winner_of cs) (winner_of-wins cs) e
 
   none_at : (ds : List Device) → (Contains (contenders (device_lists ds)) c → ⊥)
       → position (contends_with c) ds ≡ None
   none_at [] h = refl
   none_at (d ∷ ds) h =
-      let front : List Contender = contenders_of (d.number, d.waiting) in
+      let front : List Contender = contenders_of (device_sender d.number, d.waiting) in
       let back : List Contender = contenders (device_lists ds) in
       position_more (contends_with c) d ds
       ∙ ap (λ (b : Bool). if b then Some 0 else after_one (position (contends_with c) ds))
@@ -200,7 +201,7 @@ module _ (c : Contender) where
   -- it is known of a device whether it contends
   pub contends_is : (d : Device) (o : Option Contender) → IsBest o (d ∷ []) → contends_with c d ≡ is_contender c o
   contends_is d o h =
-      let cs : List Contender = contenders_of (d.number, d.waiting) in
+      let cs : List Contender = contenders_of (device_sender d.number, d.waiting) in
       ap (is_contender c) (sym (winner_is (cs ++ []) o h ∙ ap winner_of (append-nil cs)))
 
   module _ (ds : List Device) (m : ℕ) (none : None ≡ sender_place c (take m ds)) where

@@ -19,10 +19,12 @@ after_set_at t node place bytes d = if d.number == node then device.after_set t 
 unfoldable pub after_power_at : ℕ → ℕ → Bool → Device → Asking Part Content Device
 after_power_at t node on d = if d.number == node then device.after_power on t d else Answer d
 
--- what an event does; a command is queued at the manager
+-- what an event does: a command is queued at the manager, and the power of the device that the manager runs in isn't
+-- switched
 unfoldable pub after_event : ℕ → Step → List Device × Manager → Asking Part Content (List Device × Manager)
 after_event t (Set node index sub bytes) nodes = Answer (map (after_set_at t node (index, sub) bytes) nodes.0, nodes.1)
-after_event t (Power node on) nodes = bind (each (after_power_at t node on) nodes.0) (λ ds. Answer (ds, nodes.1))
+after_event t (Power node on) nodes = if nodes.1.number == node then Answer nodes
+    else bind (each (after_power_at t node on) nodes.0) (λ ds. Answer (ds, nodes.1))
 after_event t (Nmt node command) nodes = Answer (nodes.0, with_command command node nodes.1)
 
 -- each event in turn, on what the one before it left

@@ -2,22 +2,23 @@
 use Rattle.std.specs.Prelude.{ℕ, ◌==◌, ◌&&◌, not, Bool, false, List, map, remove, slice_set, Option, Some, None}
 use Rattle.std.specs.List.{position}
 use Rattle.bus_devices.specs.Places.{device_at}
+use Rattle.can_frame.specs.Senders.{device_sender}
 use Rattle.can_frame.specs.Winner.{contenders_of, is_below, winner_of}
 use Rattle.can_frame.specs.declared.contender.Contender.{Contender}
 use Rattle.can_frame.specs.declared.waiting.Waiting.{Waiting}
 use Rattle.co_device.specs.Device.{Device}
 
--- the lists of the frames that wait at devices, with their numbers
+-- the lists of the frames that wait at devices, with their senders
 abbrev pub device_lists : List Device → List (ℕ × List Waiting)
-device_lists ds = map (λ d. (d.number, d.waiting)) ds
+device_lists ds = map (λ d. (device_sender d.number, d.waiting)) ds
 
 abbrev pub is_contender : Contender → Option Contender → Bool
 is_contender c None = false
-is_contender c (Some b) = (b.id == c.id) && ((b.node == c.node) && (b.place == c.place))
+is_contender c (Some b) = (b.id == c.id) && ((b.sender == c.sender) && (b.place == c.place))
 
 -- it is this device that contends with the frame
 abbrev pub contends_with : Contender → Device → Bool
-contends_with c d = is_contender c (winner_of (contenders_of (d.number, d.waiting)))
+contends_with c d = is_contender c (winner_of (contenders_of (device_sender d.number, d.waiting)))
 
 -- a frame can be one of those of which this is the least: it isn't below it
 abbrev pub may_wait_at : Contender → Option Contender → Bool

@@ -192,7 +192,7 @@ fn is_same(contender: &Contender, other: Option<Contender>) -> bool
         None => false,
         Some(other) => {
             other.id == contender.id
-                && (other.node == contender.node && other.place == contender.place)
+                && (other.sender == contender.sender && other.place == contender.place)
         }
     }
 }

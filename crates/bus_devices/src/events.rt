@@ -8,6 +8,7 @@ ghost use Rattle.bus_devices.specs.Events.{after_events_at, after_event, after_p
 ghost use Rattle.bus_devices.specs.Steps.{AreFree};
 ghost use Rattle.image_parts.specs.Images.{IsFree};
 ghost use Rattle.cia301.specs.PdoObjects.{is_of_pdos};
+ghost use Rattle.co_scenario.specs.declared.step.Step.TheVariants.{Power};
 
 use base::{Octets, Shared};
 use co_scenario::{Step, TimedStep};
@@ -95,6 +96,26 @@ fn power_each<P: Shapes>(
     Ok(())
 }
 
+/// Switches the power of the devices of this number at the moment t, if the manager doesn't run in them.
+fn power_others<P: Shapes>(
+    devices: &mut [ScheduledDevice],
+    manager: &Manager,
+    t: u64,
+    node: u8,
+    on: bool,
+    shapes: &mut P,
+) -> Result<(), AllocError>
+    requires { t < END }
+    ensures ran { OnOk result (GoesBy (after_event t (Power node on) (devices.old, manager.now))
+        (devices.new, manager.now) P.seen P.asks shapes.old shapes.new) }
+    ensures lasts { Lasts (P.seen shapes.old) (P.seen shapes.new) }
+{
+    if manager.number() == node {
+        return Ok(());
+    }
+    power_each(devices, t, node, on, shapes)
+}
+
 /// An event happens at the moment t.
 #[tactic(auto, using(crate::proofs::EventLemmas::happens_laws))]
 fn happen<P: Shapes>(
@@ -121,7 +142,7 @@ fn happen<P: Shapes>(
             sub,
             bytes,
         } => set_each(devices, t, *node, (*index, *sub), bytes),
-        Step::Power { node, on } => power_each(devices, t, *node, *on, shapes),
+        Step::Power { node, on } => power_others(devices, manager, t, *node, *on, shapes),
         Step::Nmt { node, command } => manager.command(*command, *node),
     }
 }

@@ -10,7 +10,8 @@ use Rattle.image_parts.specs.Each.{each}
 use Rattle.bus_devices.specs.Events.{after_events_at, after_event, after_power_at, after_set_at}
 use Rattle.bus_devices.specs.Steps.{steps_due}
 use Rattle.image_parts.proofs.EachLemmas.{outcome_each}
-use Rattle.bus_devices.proofs.EventLemmas.{happens_nmt, happens_set, outcome_events, outcome_power}
+use Rattle.bus_devices.proofs.EventLemmas.{happens_nmt, happens_own, happens_set, outcome_events, outcome_power}
+use Rattle.can_frame.specs.Senders.{device_sender, manager_sender}
 use Rattle.can_frame.specs.Slots.{bits_of_slot}
 use Rattle.can_frame.proofs.FrameBitLemmas.{least_of_slot}
 use Rattle.can_frame.specs.declared.contender.Contender.{Contender}
@@ -113,12 +114,17 @@ module _ (image : Image) (t : ℕ) where
   one_power node on d h = picked image (IsAhead t) (d.number == node) _ _ (λ e. power_ahead t t now image on d h)
       (λ e. h)
 
+  power_event : (node : ℕ) (on : Bool) (ds : List Device) (m : Manager) → DevicesAhead t ds → IsManagerAhead t m
+      → (own : Bool) → (m.number == node) ≡ own → NodesAhead t (outcome (after_event t (Power node on) (ds, m)) image)
+  power_event node on ds m h k true e = rw (happens_own t ds m node on e) (record { devices = h; manager = k })
+  power_event node on ds m h k false e = rw (outcome_power t ds m node on e image)
+      (record { devices = each_ahead (after_power_at t node on) (one_power node on) ds h; manager = k })
+
   one_event : (step : Step) (ds : List Device) (m : Manager) → DevicesAhead t ds → IsManagerAhead t m
       → NodesAhead t (outcome (after_event t step (ds, m)) image)
   one_event (Set node index sub bytes) ds m h k = rw (happens_set t ds m node index sub bytes)
       (record { devices = all_set node (index, sub) bytes ds h; manager = k })
-  one_event (Power node on) ds m h k = rw (outcome_power t ds m node on image)
-      (record { devices = each_ahead (after_power_at t node on) (one_power node on) ds h; manager = k })
+  one_event (Power node on) ds m h k = power_event node on ds m h k (m.number == node) refl
   one_event (Nmt node command) ds m h k = rw (happens_nmt t ds m node command)
       (record { devices = h; manager = command_ahead t command node m k })
 
@@ -133,7 +139,7 @@ module _ (image : Image) (t : ℕ) where
 
   one_hears : (slot : Slot) (d : Device) → IsAhead t d → IsAhead t (outcome (hears t (delivered_of slot) d) image)
   unfolding hears
-  one_hears slot d h = picked image (IsAhead t) (d.number == slot.sender) _ _ (λ e. h)
+  one_hears slot d h = picked image (IsAhead t) (device_sender d.number == slot.sender) _ _ (λ e. h)
       (λ e. frame_ahead t t now image slot.frame d h)
 
   all_hear : (slot : Option Slot) (ds : List Device) → DevicesAhead t ds
@@ -147,7 +153,7 @@ module _ (image : Image) (t : ℕ) where
   unfolding manager_after_slot
   manager_ahead None m h = h
   manager_ahead (Some slot) m h = picked image (λ (r : Manager × List Noted). IsManagerAhead t r.0)
-      (m.number == slot.sender) _ _ (λ e. h) (λ e. manager_frame_ahead image t slot.frame m h)
+      (manager_sender m.number == slot.sender) _ _ (λ e. h) (λ e. manager_frame_ahead image t slot.frame m h)
 
   manager_later : (slot : Option Slot) (m : Manager) → IsManagerAhead t m
       → IsManagerAhead (t + 1) (outcome (manager_after_delivery t slot m) image).0

@@ -1,5 +1,5 @@
 -- The earliest of the times of events in order is that of the first.
-use Rattle.std.proofs.Common.{◌≡◌, ℕ, zero, suc, List, [], ◌∷◌, drop, Option, Some, None, inl, inr, refl, ap, ◌∙◌}
+use Rattle.std.proofs.Common.{◌≡◌, ℕ, zero, suc, List, [], ◌∷◌, drop, Some, None, inl, inr, refl, ap, ◌∙◌}
 use Rattle.std.proofs.Common.{◌-◌, arith, length, subst, sym, take}
 use Rattle.std.proofs.lemmas.List.{take_rest}
 use Rattle.std.specs.Prelude.{min, option_map, slice_get}

@@ -7,6 +7,7 @@ use Rattle.std.proofs.lemmas.List.Elements.{All-head, All-tail}
 use Rattle.image_parts.specs.Asking.{Answer}
 use Rattle.bus_devices.specs.Events.{after_events_at}
 use Rattle.bus_devices.specs.Steps.{LieFrom, has_time, steps_due, steps_left}
+use Rattle.can_frame.specs.Senders.{device_sender, manager_sender}
 use Rattle.can_frame.specs.Winner.{contenders, contenders_of}
 use Rattle.can_frame.specs.declared.waiting.Waiting.{Waiting}
 use Rattle.co_device.specs.Device as device
@@ -74,9 +75,9 @@ no_contenders node frames e = rw e refl
 
 none_contend : (ds : List Device) (m : Manager) → All (λ (d : Device). d.waiting ≡ []) ds → m.waiting ≡ []
     → contenders (waiting_lists ds m) ≡ []
-none_contend [] m h e = rw (no_contenders m.number m.waiting e) refl
+none_contend [] m h e = rw (no_contenders (manager_sender m.number) m.waiting e) refl
 none_contend (d ∷ ds) m h e =
-    rw (no_contenders d.number d.waiting (All-head (λ (d : Device). d.waiting ≡ []) d ds h))
+    rw (no_contenders (device_sender d.number) d.waiting (All-head (λ (d : Device). d.waiting ≡ []) d ds h))
     (none_contend ds m (All-tail (λ (d : Device). d.waiting ≡ []) d ds h) e)
 
 none_wins : (ds : List Device) (m : Manager) → All (λ (d : Device). d.waiting ≡ []) ds → m.waiting ≡ []

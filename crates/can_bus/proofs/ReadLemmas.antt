@@ -6,6 +6,7 @@ use Rattle.image_parts.specs.Asking.{Answer, reads}
 use Rattle.image_parts.specs.Contents.{Content, Image, roster_of}
 use Rattle.image_parts.specs.declared.part.Part.{Part}
 use Rattle.image_parts.specs.declared.part.Part.TheVariants.{Defaults, Roster, Shape}
+use Rattle.can_frame.specs.Senders.{device_sender}
 use Rattle.co_device.specs.Device as device
 use Rattle.co_device.specs.Device.{Device, after_power, after_reset_node}
 use Rattle.can_bus.specs.Bus.{delivered_of, power_on, without_power}
@@ -38,7 +39,7 @@ power_on_reads_all image =
     let roster = roster_of (image Roster) in
     ap (λ rs. (Roster, image Roster) ∷ rs) (reads_power_on_of roster image ∙ nodes_read image roster.nodes)
 
-pub own_frame_unheard : (t : ℕ) (slot : Slot) (d : Device) → d.number ≡ slot.sender
+pub own_frame_unheard : (t : ℕ) (slot : Slot) (d : Device) → device_sender d.number ≡ slot.sender
     → hears t (delivered_of slot) d ≡ Answer d
 unfolding hears
 own_frame_unheard t slot d e = rw (e, same_number slot.sender) refl

@@ -4,6 +4,7 @@ use Rattle.std.proofs.Common.{length-append}
 use Rattle.std.specs.Prelude.{All}
 use Rattle.std.proofs.lemmas.List.Elements.{All-cons, All-nil}
 use Rattle.image_parts.specs.Asking.{outcome}
+use Rattle.can_frame.specs.Senders.{device_sender, manager_sender}
 use Rattle.can_frame.specs.Winner.{contenders, contenders_of}
 use Rattle.can_frame.specs.declared.contender.Contender.{Contender}
 use Rattle.can_frame.specs.declared.waiting.Waiting.{Waiting}
@@ -35,14 +36,14 @@ none_at node frames e = empty frames (sym (length-contenders_of node frames) ∙
 none_waits : (s : Bus) (ds : List Device) (m : Manager) → contenders (waiting_lists ds m) ≡ []
     → All (λ d. d.waiting ≡ []) ds × (m.waiting ≡ [])
 none_waits s [] m e =
-    let last : ℕ × List Waiting = (m.number, m.waiting) in
+    let last : ℕ × List Waiting = (manager_sender m.number, m.waiting) in
     let here = none_of (contenders_of last) (contenders []) e in
-    (All-nil (λ (d : Device). d.waiting ≡ []), none_at m.number m.waiting here.0)
+    (All-nil (λ (d : Device). d.waiting ≡ []), none_at (manager_sender m.number) m.waiting here.0)
 none_waits s (d ∷ ds) m e =
-    let own : ℕ × List Waiting = (d.number, d.waiting) in
+    let own : ℕ × List Waiting = (device_sender d.number, d.waiting) in
     let here = none_of (contenders_of own) (contenders (waiting_lists ds m)) e in
     let rest = none_waits s ds m (empty (contenders (waiting_lists ds m)) here.1) in
-    (All-cons (λ (d : Device). d.waiting ≡ []) d ds (none_at d.number d.waiting here.0) rest.0, rest.1)
+    (All-cons (λ (d : Device). d.waiting ≡ []) d ds (none_at (device_sender d.number) d.waiting here.0) rest.0, rest.1)
 
 none_wins : (ds : List Device) (m : Manager) → winner ds m ≡ None → contenders (waiting_lists ds m) ≡ []
 unfolding winner

@@ -4,6 +4,7 @@ use Rattle.std.proofs.Common.{refl, sym, ap, ◌∙◌, arith}
 use Rattle.std.specs.Prelude.{Contains, slice_index_or}
 use Rattle.std.proofs.lemmas.List.Elements.{Contains-append_left, Contains-append_right}
 use Rattle.std.proofs.lemmas.Option.{none-some, same_Some, slice_get-get_or}
+use Rattle.can_frame.specs.Senders.{device_sender, manager_sender}
 use Rattle.can_frame.specs.Winner.{contenders, contenders_of, winner_of, IsWinner, WaitsAt}
 use Rattle.can_frame.specs.WaitingFrames.{waiting}
 use Rattle.can_frame.specs.declared.contender.Contender.{Contender}
@@ -24,28 +25,28 @@ use Rattle.std.proofs.lemmas.List.Quantifiers.{position-Some}
 abbrev waiting_at : List Waiting → ℕ → Waiting
 waiting_at frames place = slice_index_or frames place (waiting Nmt (record { id = 0; bytes = [] }))
 
--- the winner of a node's list is of that node
+-- the winner of a sender's list is of that sender
 pub node_is : (node : ℕ) (frames : List Waiting) (c : Contender) → winner_of (contenders_of (node, frames)) ≡ Some c
-    → c.node ≡ node
+    → c.sender ≡ node
 node_is node frames c e =
     let wins : IsWinner (contenders_of (node, frames))
     (Some c) = rw e at (winner_of-wins (contenders_of (node, frames))) in
     let k = wins.0.0 in
     let many = length-contenders_of node frames in
     let within : k < length frames = omega (arith, wins.0.1) in
-    ap (λ (d : Contender). d.node) (sym wins.0.2 ∙ contender_at node frames k c within)
+    ap (λ (d : Contender). d.sender) (sym wins.0.2 ∙ contender_at node frames k c within)
 
 waits_there : (all : List (ℕ × List Waiting)) (node : ℕ) (frames : List Waiting) (c : Contender)
     → winner_of (contenders_of (node, frames)) ≡ Some c → Contains all (node, frames)
-    → WaitsAt all c.node c.place (waiting_at frames c.place)
+    → WaitsAt all c.sender c.place (waiting_at frames c.place)
 waits_there all node frames c e there =
     (frames, (rw (node_is node frames c e) there, slice_get-get_or frames c.place _ (place_within node frames c e)))
 
 -- ---- the lists of devices and manager
 
 device_list : (ds : List Device) (i : ℕ) (d : Device) → i < length ds
-    → Contains {X = ℕ × List Waiting} (map (λ d. (d.number, d.waiting)) ds)
-    ((get_or ds i d).number, (get_or ds i d).waiting)
+    → Contains {X = ℕ × List Waiting} (map (λ d. (device_sender d.number, d.waiting)) ds)
+    (device_sender (get_or ds i d).number, (get_or ds i d).waiting)
 device_list [] i d h = absurd (omega (arith, h))
 device_list (x ∷ ds) zero d h = (0, omega arith, refl)
 device_list (x ∷ ds) (suc i) d h =
@@ -53,16 +54,16 @@ device_list (x ∷ ds) (suc i) d h =
     (suc rest.0, omega (arith, rest.1), rest.2)
 
 has_device : (ds : List Device) (m : Manager) (i : ℕ) (d : Device) → i < length ds
-    → Contains (waiting_lists ds m) ((get_or ds i d).number, (get_or ds i d).waiting)
+    → Contains (waiting_lists ds m) (device_sender (get_or ds i d).number, (get_or ds i d).waiting)
 has_device ds m i d h =
-    let of : List (ℕ × List Waiting) = map (λ d. (d.number, d.waiting)) ds in
-    Contains-append_left of ((m.number, m.waiting) ∷ []) ((get_or ds i d).number, (get_or ds i d).waiting)
+    let of : List (ℕ × List Waiting) = map (λ d. (device_sender d.number, d.waiting)) ds in
+    Contains-append_left of ((manager_sender m.number, m.waiting) ∷ []) (device_sender (get_or ds i d).number, (get_or ds i d).waiting)
     (device_list ds i d h)
 
-has_manager : (ds : List Device) (m : Manager) → Contains (waiting_lists ds m) (m.number, m.waiting)
+has_manager : (ds : List Device) (m : Manager) → Contains (waiting_lists ds m) (manager_sender m.number, m.waiting)
 has_manager ds m =
-    let of : List (ℕ × List Waiting) = map (λ d. (d.number, d.waiting)) ds in
-    Contains-append_right of ((m.number, m.waiting) ∷ []) (m.number, m.waiting) (0, omega arith, refl)
+    let of : List (ℕ × List Waiting) = map (λ d. (device_sender d.number, d.waiting)) ds in
+    Contains-append_right of ((manager_sender m.number, m.waiting) ∷ []) (manager_sender m.number, m.waiting) (0, omega arith, refl)
 
 -- ---- the slot
 
@@ -73,7 +74,7 @@ wins ds m c e = rw e at (winner_of-wins (contenders (waiting_lists ds m)))
 
 by_device : (t : ℕ) (s : Bus) (c : Contender) (i : ℕ) → Some i ≡ sender_place c s.devices
     → winner s.devices s.manager ≡ Some c
-    → StartsWith t s (slot_of t s.slots s.bit_time c.node (winning_frame c (Some i) s.devices s.manager)) c
+    → StartsWith t s (slot_of t s.slots s.bit_time c.sender (winning_frame c (Some i) s.devices s.manager)) c
     (waiting_at (device_at s.devices i).waiting c.place)
 unfolding sender_place
 by_device t s c i found e =
@@ -81,20 +82,20 @@ by_device t s c i found e =
     let at = position-Some (contends_with c) s.devices i (without_power false 0) (sym found) in
     record {
       wins = wins s.devices s.manager c e;
-      waits = waits_there (waiting_lists s.devices s.manager) d.number d.waiting c (contends_is c d at.1)
+      waits = waits_there (waiting_lists s.devices s.manager) (device_sender d.number) d.waiting c (contends_is c d at.1)
           (has_device s.devices s.manager i (without_power false 0) at.0);
       is = refl;
     }
 
 by_manager : (t : ℕ) (s : Bus) (c : Contender) → None ≡ sender_place c s.devices → winner s.devices s.manager ≡ Some c
-    → StartsWith t s (slot_of t s.slots s.bit_time c.node (winning_frame c None s.devices s.manager)) c
+    → StartsWith t s (slot_of t s.slots s.bit_time c.sender (winning_frame c None s.devices s.manager)) c
     (waiting_at s.manager.waiting c.place)
 unfolding sender_place winner
 by_manager t s c found e =
     let m = s.manager in
     record {
       wins = wins s.devices m c e;
-      waits = waits_there (waiting_lists s.devices m) m.number m.waiting c
+      waits = waits_there (waiting_lists s.devices m) (manager_sender m.number) m.waiting c
           (manager_contends s.devices m c e (none_found (contends_with c) s.devices (sym found)))
           (has_manager s.devices m);
       is = refl;
@@ -107,7 +108,7 @@ sent_waiting c (Some i) s = waiting_at (device_at s.devices i).waiting c.place
 
 by_either : (t : ℕ) (s : Bus) (c : Contender) (o : Option ℕ) → o ≡ sender_place c s.devices
     → winner s.devices s.manager ≡ Some c
-    → StartsWith t s (slot_of t s.slots s.bit_time c.node (winning_frame c o s.devices s.manager)) c (sent_waiting c o s)
+    → StartsWith t s (slot_of t s.slots s.bit_time c.sender (winning_frame c o s.devices s.manager)) c (sent_waiting c o s)
 by_either t s c None found e = by_manager t s c found e
 by_either t s c (Some i) found e = by_device t s c i found e
 

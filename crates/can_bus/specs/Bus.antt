@@ -4,6 +4,7 @@ use Rattle.std.specs.Prelude.{ℕ, ◌+◌, ◌*◌, ◌/◌, ◌==◌, Bool, fa
 use Rattle.std.specs.Prelude.{slice_index_or, Option, Some, None, if◌then◌else◌}
 use Rattle.image_parts.specs.Asking.{Asking, Answer, Ask, bind}
 use Rattle.can_frame.specs.Frames.{BaseFrame, bit_time}
+use Rattle.can_frame.specs.Senders.{manager_sender}
 use Rattle.can_frame.specs.Slots.{bits_of_slot}
 use Rattle.can_frame.specs.Winner.{contenders, winner_of}
 use Rattle.can_frame.specs.WaitingFrames.{waiting}
@@ -139,7 +140,7 @@ after_delivery t (Some slot) ds = each (hears t (delivered_of slot)) ds
 
 unfoldable pub manager_after_slot : ℕ → Option Slot → Manager → Asking Part Content (Manager × List Noted)
 manager_after_slot t None m = Answer (m, [])
-manager_after_slot t (Some slot) m = if m.number == slot.sender then Answer (m, [])
+manager_after_slot t (Some slot) m = if manager_sender m.number == slot.sender then Answer (m, [])
     else manager.after_frame t slot.frame m
 
 abbrev pub manager_after_timers : ℕ → Manager × List Noted → Manager × List Noted
@@ -155,7 +156,7 @@ note_lines t notes = map (Note t) notes
 
 -- the lists of the devices and that of the manager
 abbrev pub waiting_lists : List Device → Manager → List (ℕ × List Waiting)
-waiting_lists ds m = device_lists ds ++ (m.number, m.waiting) ∷ []
+waiting_lists ds m = device_lists ds ++ (manager_sender m.number, m.waiting) ∷ []
 
 -- the frame that waits at a place
 abbrev pub waiting_frame_at : List Waiting → ℕ → BaseFrame
@@ -183,7 +184,7 @@ with_slot_of t None s = s
 with_slot_of t (Some c) s = record s {
   devices = devices_without_winner c (sender_place c s.devices) s.devices;
   manager = manager_without_winner c (sender_place c s.devices) s.manager;
-  wire = Some (slot_of t s.slots s.bit_time c.node
+  wire = Some (slot_of t s.slots s.bit_time c.sender
       (winning_frame c (sender_place c s.devices) s.devices s.manager));
 }
 

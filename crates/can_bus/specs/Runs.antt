@@ -46,8 +46,8 @@ IsSettled s = IsIdle s.wire → NoneWaits s
 -- the slot is that of the frame w, which waits and wins with c at the moment t
 pub record StartsWith (t : ℕ) (s : Bus) (slot : Slot) (c : Contender) (w : Waiting) : Type 0 where
   pub wins : IsWinner (contenders (waiting_lists s.devices s.manager)) (Some c)
-  pub waits : WaitsAt (waiting_lists s.devices s.manager) c.node c.place w
-  pub is : slot ≡ slot_of t s.slots s.bit_time c.node w.frame
+  pub waits : WaitsAt (waiting_lists s.devices s.manager) c.sender c.place w
+  pub is : slot ≡ slot_of t s.slots s.bit_time c.sender w.frame
 
 -- what power-on reads: the roster, and of each node its values and its entries
 abbrev pub power_on_reads : Image → List (Part × Content)

@@ -165,7 +165,7 @@ fn start_slot(bus: &mut BusState, t: u64) -> Result<(), AllocError>
         let frame = send(&contender, &mut bus.devices, &mut bus.manager)?;
         bus.wire = Some(Slot {
             end: slot_end(t, bus.slots, bus.bit_time, &frame),
-            sender: contender.node,
+            sender: contender.sender,
             frame,
         });
     }

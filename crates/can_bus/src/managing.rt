@@ -6,6 +6,7 @@ ghost use Rattle.image_parts.specs.Record.{BeginsWith, IsAsked, Lasts};
 ghost use Rattle.can_bus.specs.Bus.{manager_after_delivery, manager_after_slot};
 
 use crate::slot::Slot;
+use can_frame::manager_sender;
 use image_parts::END;
 use nmt_boot::Manager;
 use node_boot::{Boots, Notes};
@@ -33,7 +34,7 @@ fn hear<P: Boots>(
     match ended {
         None => Ok(()),
         Some(slot) => {
-            if manager.number() == slot.sender {
+            if manager_sender(manager.number()) == slot.sender {
                 return Ok(());
             }
             manager.on_frame(t, &slot.frame, boots, notes)

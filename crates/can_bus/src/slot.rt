@@ -9,8 +9,8 @@ use can_frame::Frame;
 pub struct Slot {
     /// The moment at which it ends and is delivered, in microseconds.
     pub end: u64,
-    /// The number of the node that sends it.
-    pub sender: u8,
+    /// Who sends it: `device_sender` or `manager_sender` of a number.
+    pub sender: u16,
     /// The frame.
     pub frame: Frame,
 }

@@ -15,9 +15,9 @@ use Rattle.can_frame.proofs.WinnerLemmas.{blank, contender_at, length-contenders
 -- ---- of one list
 
 contends_here : (node place : ℕ) (frames : List Waiting) (w : Waiting) → slice_get frames place ≡ Some w
-    → Contains (contenders_of (node, frames)) (record { id = w.frame.id; node = node; place = place })
+    → Contains (contenders_of (node, frames)) (record { id = w.frame.id; sender = node; place = place })
 contends_here node place frames w h =
-    let made : ℕ → Contender = λ id. record { id = id; node = node; place = place } in
+    let made : ℕ → Contender = λ id. record { id = id; sender = node; place = place } in
     let within : place < length frames = slice_get_within frames place w h in
     let many = length-contenders_of node frames in (
       place,
@@ -28,13 +28,13 @@ contends_here node place frames w h =
     )
 
 waits_here : (node : ℕ) (frames : List Waiting) (c : Contender) → Contains (contenders_of (node, frames)) c
-    → (c.node ≡ node) × ((w : Waiting) × ((slice_get frames c.place ≡ Some w) × (c.id ≡ w.frame.id)))
+    → (c.sender ≡ node) × ((w : Waiting) × ((slice_get frames c.place ≡ Some w) × (c.id ≡ w.frame.id)))
 waits_here node frames c h =
     let k = h.0 in
     let many = length-contenders_of node frames in
     let within : k < length frames = omega (arith, h.1) in
     let is = sym (contender_at node frames k c within) ∙ h.2 in (
-      sym (ap (λ (d : Contender). d.node) is),
+      sym (ap (λ (d : Contender). d.sender) is),
       (
         get_or frames k blank,
         (
@@ -51,18 +51,18 @@ contains_more xs y x h = (suc h.0, omega (arith, h.1), h.2)
 
 contends_at : (lists : List (ℕ × List Waiting)) (node place : ℕ) (w : Waiting) (frames : List Waiting) (k : ℕ)
     → k < length lists → get_or lists k (node, frames) ≡ (node, frames) → slice_get frames place ≡ Some w
-    → Contains (contenders lists) (record { id = w.frame.id; node = node; place = place })
+    → Contains (contenders lists) (record { id = w.frame.id; sender = node; place = place })
 contends_at [] node place w frames k within is h = absurd (omega (arith, within))
 contends_at (list ∷ lists) node place w frames zero within is h =
     rw is (Contains-append_left (contenders_of (node, frames)) (contenders lists)
-    (record { id = w.frame.id; node = node; place = place }) (contends_here node place frames w h))
+    (record { id = w.frame.id; sender = node; place = place }) (contends_here node place frames w h))
 contends_at (list ∷ lists) node place w frames (suc k) within is h =
     Contains-append_right (contenders_of list) (contenders lists)
-    (record { id = w.frame.id; node = node; place = place })
+    (record { id = w.frame.id; sender = node; place = place })
     (contends_at lists node place w frames k (omega (arith, within)) is h)
 
 pub all_contend : (lists : List (ℕ × List Waiting)) (node place : ℕ) (w : Waiting) → WaitsAt lists node place w
-    → Contains (contenders lists) (record { id = w.frame.id; node = node; place = place })
+    → Contains (contenders lists) (record { id = w.frame.id; sender = node; place = place })
 all_contend lists node place w h = contends_at lists node place w h.0 h.1.0.0 h.1.0.1 h.1.0.2 h.1.1
 
 first_list : (list : ℕ × List Waiting) (lists : List (ℕ × List Waiting)) (node : ℕ) → node ≡ list.0
@@ -70,13 +70,13 @@ first_list : (list : ℕ × List Waiting) (lists : List (ℕ × List Waiting)) (
 first_list list lists node e = let named : ℕ → ℕ × List Waiting = λ n. (n, list.1) in (0, omega arith, ap named (sym e))
 
 pub none_else_contends : (lists : List (ℕ × List Waiting)) (c : Contender) → Contains (contenders lists) c
-    → (w : Waiting) × (WaitsAt lists c.node c.place w × (c.id ≡ w.frame.id))
+    → (w : Waiting) × (WaitsAt lists c.sender c.place w × (c.id ≡ w.frame.id))
 none_else_contends [] c h = absurd (omega (arith, h.1))
 none_else_contends (list ∷ lists) c h = elim (Contains-append_cases (contenders_of list) (contenders lists) c h) [
   | inl here ↦ let w = waits_here list.0 list.1 c here
-      in (w.1.0, ((list.1, (first_list list lists c.node w.0, w.1.1.0)), w.1.1.1))
+      in (w.1.0, ((list.1, (first_list list lists c.sender w.0, w.1.1.0)), w.1.1.1))
   | inr there ↦ let w = none_else_contends lists c there
-      in (w.0, ((w.1.0.0, (contains_more lists list (c.node, w.1.0.0) w.1.0.1.0, w.1.0.1.1)), w.1.1))
+      in (w.0, ((w.1.0.0, (contains_more lists list (c.sender, w.1.0.0) w.1.0.1.0, w.1.0.1.1)), w.1.1))
 ]
 
 pub ruleset contenders_both = (all_contend, none_else_contends)
@@ -96,8 +96,8 @@ in_order i n p j m q h = grind (arith, nat_tests)
 
 pub winner_first : (lists : List (ℕ × List Waiting)) (c : Contender) (node place : ℕ) (w : Waiting)
     → IsWinner (contenders lists) (Some c) → WaitsAt lists node place w
-    → (c.id < w.frame.id) ⊎ ((c.id ≡ w.frame.id) × ((c.node < node) ⊎ ((c.node ≡ node) × (c.place ≤ place))))
+    → (c.id < w.frame.id) ⊎ ((c.id ≡ w.frame.id) × ((c.sender < node) ⊎ ((c.sender ≡ node) × (c.place ≤ place))))
 winner_first lists c node place w wins h =
-    in_order c.id c.node c.place w.frame.id node place
+    in_order c.id c.sender c.place w.frame.id node place
     (All-contains (λ d. is_below d c ≡ false) (contenders lists)
-    (record { id = w.frame.id; node = node; place = place }) wins.1 (all_contend lists node place w h))
+    (record { id = w.frame.id; sender = node; place = place }) wins.1 (all_contend lists node place w h))

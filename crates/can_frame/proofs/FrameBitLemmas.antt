@@ -1,21 +1,21 @@
 -- The bits on the wire are of one frame.
-use Rattle.std.proofs.Common.{◌≡◌, ℕ, suc, ◌+◌, ◌*◌, ◌-◌, ◌/◌, ◌^◌, ◌<◌, ◌≤◌, List, [], ◌∷◌, ◌++◌, length, get_or, take, drop}
-use Rattle.std.proofs.Common.{refl, ap, sym, ◌∙◌, arith, append_assoc}
+use Rattle.std.proofs.Common.{◌≡◌, ℕ, suc, ◌+◌, ◌*◌, ◌-◌, ◌/◌, ◌%◌, ◌^◌, ◌<◌, ◌≤◌, List, [], ◌∷◌, ◌++◌, length, get_or, take, drop}
+use Rattle.std.proofs.Common.{refl, ap, subst, sym, ◌∙◌, arith, append_assoc}
 use Rattle.std.specs.Prelude.{replicate}
 use Rattle.std.specs.Int.{bit_at}
 use Rattle.std.specs.List.{flat_map}
-use Rattle.std.proofs.lemmas.List.{append-nil, length-append, take_all, take_more}
+use Rattle.std.proofs.lemmas.List.{length-append, take_all, take_more}
 use Rattle.std.proofs.lemmas.List.Concat.{flat_map-append}
 use Rattle.std.proofs.lemmas.Nat.Bits.{same_from_bits_below}
 use Rattle.base.specs.Bytes.{AreBytes}
-use Rattle.can_frame.specs.Frames.{BaseFrame, IsFrame}
+use Rattle.can_frame.specs.Frames.{BaseFrame, IsFrame, slot_bits}
 use Rattle.can_frame.specs.Slots.{bits_of_slot}
 use Rattle.can_frame.specs.WireBits.{bits, checked_bits, crc, exact_bits, plain_bits, stuffed, unstuffed, wire_bits}
 use Rattle.can_frame.specs.declared.slot_rule.SlotRule.{SlotRule}
 use Rattle.can_frame.specs.declared.slot_rule.SlotRule.TheVariants.{Unstuffed, Stuffed}
 use Rattle.can_frame.specs.declared.wire.Wire.{Wire}
 use Rattle.can_frame.specs.Sent.{HasSent}
-use Rattle.can_frame.proofs.SentLemmas.{bit_of}
+use Rattle.can_frame.proofs.BitLemmas.{bit_of, low_bits, parted_bits}
 use Rattle.can_frame.proofs.TraceLemmas.{fronts, behind}
 use Rattle.can_frame.proofs.WireLemmas.{few_stuffed, none_lost, six_fit_nowhere, stuffed_fits, undone}
 
@@ -119,18 +119,41 @@ most_bits frame =
 abbrev pub head : BaseFrame → List ℕ → List ℕ
 head frame rest = 0 ∷ (bits 11 frame.id ++ (0 ∷ 0 ∷ 0 ∷ (bits 4 (length frame.bytes) ++ rest)))
 
--- the bits of the first bytes
+-- the bits up to the first bytes
 abbrev pub up_to : BaseFrame → List ℕ → ℕ → List ℕ
 up_to frame items i = head frame (flat_map (bits 8) (take i items))
 
-pub head_sent : (frame : BaseFrame) (items : List ℕ) (id count : ℕ) (start one two three : Wire) → id ≡ frame.id
-    → count ≡ length frame.bytes → HasSent (0 ∷ []) start
-    → ((sent : List ℕ) → HasSent sent start → HasSent (sent ++ bits 11 id) one)
-    → ((sent : List ℕ) → HasSent sent one → HasSent (sent ++ bits 3 0) two)
-    → ((sent : List ℕ) → HasSent sent two → HasSent (sent ++ bits 4 count) three)
-    → HasSent (up_to frame items 0) three
-head_sent frame items id count start one two three same long h first second third =
-    rw (← same, ← long) (third _ (second _ (first _ h)))
+-- the bits up to the length are three and two bytes
+in_bytes : (id count first second third : ℕ) → id < 0x800 → count ≤ 8 → first ≡ id / 0x200 → second ≡ id / 2 % 0x100
+    → third ≡ id % 2 * 0x80 + count
+    → (bits 3 first ++ bits 8 second) ++ bits 8 third ≡ 0 ∷ (bits 11 id ++ 0 ∷ 0 ∷ 0 ∷ bits 4 count)
+in_bytes id count first second third small short first_is second_is third_is =
+    let top : bit_at first 2 ≡ 0 = omega arith in
+    let two : bits 2 first ≡ bits 2 (id / 2 ^ 9) = ap (bits 2) first_is in
+    let eight : bits 8 second ≡ bits 8 (id / 2 ^ 1) = sym (low_bits 8 (id / 2 ^ 1) second (sym second_is)) in
+    let one : bits 1 (third / 2 ^ 7) ≡ bits 1 id = ap (λ bit. bit ∷ []) (omega arith) in
+    let none : count / 2 ^ 4 ≡ 0 = omega arith in
+    let low : bits 7 third ≡ 0 ∷ 0 ∷ 0 ∷ bits 4 count = low_bits 7 third count (omega arith) ∙ parted_bits 3 4 7 count refl
+    ∙ ap (λ n. bits 3 n ++ bits 4 count) none in
+    ap (λ bit. bit ∷ ((bits 2 first ++ bits 8 second) ++ bits 8 third)) top
+    ∙ ap (λ xs. 0 ∷ ((xs ++ bits 8 second) ++ bits 8 third)) two
+    ∙ ap (λ xs. 0 ∷ ((bits 2 (id / 2 ^ 9) ++ xs) ++ bits 8 third)) eight
+    ∙ ap (λ xs. 0 ∷ ((bits 2 (id / 2 ^ 9) ++ bits 8 (id / 2 ^ 1)) ++ xs)) (parted_bits 1 7 8 third refl)
+    ∙ ap (λ xs. 0 ∷ ((bits 2 (id / 2 ^ 9) ++ bits 8 (id / 2 ^ 1)) ++ (xs ++ bits 7 third))) one
+    ∙ ap (λ xs. 0 ∷ ((bits 2 (id / 2 ^ 9) ++ bits 8 (id / 2 ^ 1)) ++ (bits 1 id ++ xs))) low
+    ∙ ap (λ xs. 0 ∷ (bits 2 (id / 2 ^ 9) ++ (xs ++ 0 ∷ 0 ∷ 0 ∷ bits 4 count))) (sym (parted_bits 8 1 9 id refl))
+    ∙ ap (λ xs. 0 ∷ (xs ++ 0 ∷ 0 ∷ 0 ∷ bits 4 count)) (sym (parted_bits 2 9 11 id refl))
+
+pub head_sent : (frame : BaseFrame) (id count first second third : ℕ) (wire : Wire) → IsFrame frame → id ≡ frame.id
+    → count ≡ length frame.bytes → first ≡ id / 0x200 → second ≡ id / 2 % 0x100 → third ≡ id % 2 * 0x80 + count
+    → HasSent ((bits 3 first ++ bits 8 second) ++ bits 8 third) wire → HasSent (head frame []) wire
+head_sent frame id count first second third wire is id_is count_is first_is second_is third_is h =
+    let small : id < 0x800 = omega (arith, is.identifier) in
+    let short : count ≤ 8 = omega (arith, is.short) in
+    let whole = in_bytes id count first second third small short first_is second_is third_is
+    ∙ ap (λ id. 0 ∷ (bits 11 id ++ 0 ∷ 0 ∷ 0 ∷ bits 4 count)) id_is
+    ∙ ap (λ count. 0 ∷ (bits 11 frame.id ++ 0 ∷ 0 ∷ 0 ∷ bits 4 count)) count_is in
+    subst (λ (xs : List ℕ). HasSent xs wire) whole h
 
 pub byte_sent : (frame : BaseFrame) (items : List ℕ) (i byte : ℕ) (wire next : Wire) → i < length items
     → byte ≡ get_or items i 0
@@ -142,20 +165,17 @@ byte_sent frame items i byte wire next less is h more =
     ∙ flat_map-append (bits 8) (take i items) (get_or items i 0 ∷ []) in
     rw (bytes, ← is) (more (up_to frame items i) h)
 
-pub counted : (frame : BaseFrame) (items : List ℕ) (i : ℕ) (wire last : Wire) → items ≡ frame.bytes → length items ≤ i
-    → HasSent (up_to frame items i) wire
-    → ((sent : List ℕ) → HasSent sent wire → HasSent (sent ++ bits 15 wire.check) last)
-    → last.count + 13 ≡ exact_bits frame
-counted frame items i wire last same all h more =
+pub all_sent : (frame : BaseFrame) (items : List ℕ) (i : ℕ) (wire : Wire) → items ≡ frame.bytes → length items ≤ i
+    → HasSent (up_to frame items i) wire → HasSent (checked_bits frame) wire
+all_sent frame items i wire same all h =
     let bytes : up_to frame items i ≡ checked_bits frame = ap (λ xs. head frame (flat_map (bits 8) xs))
     (take_all i items all ∙ same) in
-    let whole : HasSent (checked_bits frame) wire = rw (← bytes) h in
-    let sent = more (checked_bits frame) whole in
-    omega (
-      arith,
-      sent.count [] ∙ refl,
-      ap (λ check. length (stuffed ((checked_bits frame ++ bits 15 check) ++ []))) whole.check,
-      ap (λ xs. length (stuffed xs)) (append-nil (plain_bits frame)),
-    )
+    rw (← bytes) h
+
+pub counted : (frame : BaseFrame) (stuff_bits : ℕ)
+    → length (stuffed (plain_bits frame)) ≡ length (checked_bits frame) + 15 + stuff_bits
+    → slot_bits frame + stuff_bits ≡ exact_bits frame
+counted frame stuff_bits h =
+    omega (arith, h, plain_long frame, length-append (checked_bits frame) (bits 15 (crc (checked_bits frame))))
 
 pub ruleset bit_laws = (least_bits, least_of_slot, most_bits, no_six, unstuffed_again, wire_is_of_one)

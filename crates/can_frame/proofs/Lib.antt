@@ -1,3 +1,5 @@
+pub mod BitLemmas
+pub mod CheckLemmas
 pub mod ContenderLemmas
 pub mod FrameBitLemmas
 pub mod LeastLemmas
@@ -6,6 +8,7 @@ pub mod PurposeLemmas
 pub mod ReplacedLemmas
 pub mod SentLemmas
 pub mod StoredLemmas
+pub mod StuffingLemmas
 pub mod TraceLemmas
 pub mod WinnerLemmas
 pub mod WireLemmas

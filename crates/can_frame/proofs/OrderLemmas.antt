@@ -31,25 +31,25 @@ later i j n p q h k = grind (arith, nat_tests)
 
 -- of two, one is not below the other
 pub below-one_way : (a b : Contender) → is_below a b ≡ true → is_below b a ≡ false
-below-one_way a b h = one_way a.id a.node a.place b.id b.node b.place h
+below-one_way a b h = one_way a.id a.sender a.place b.id b.sender b.place h
 
 -- what is not below one that is not below a third is not below the third
 pub below-chain : (a b c : Contender) → is_below a b ≡ false → is_below b c ≡ false → is_below a c ≡ false
-below-chain a b c g h = chain a.id a.node a.place b.id b.node b.place c.id c.node c.place g h
+below-chain a b c g h = chain a.id a.sender a.place b.id b.sender b.place c.id c.sender c.place g h
 
 -- none is below itself
 pub below-itself : (a : Contender) → is_below a a ≡ false
-below-itself a = itself a.id a.node a.place
+below-itself a = itself a.id a.sender a.place
 
 -- two of which neither is below the other are one
 pub below-neither : (a b : Contender) → is_below a b ≡ false → is_below b a ≡ false → a ≡ b
 below-neither a b g h =
-    let same = neither a.id a.node a.place b.id b.node b.place g h in
-    let made : ℕ → ℕ → ℕ → Contender = λ id node place. record { id = id; node = node; place = place } in
-    ap (λ id. made id a.node a.place) same.0 ∙ ap (λ node. made b.id node a.place) same.1
-    ∙ ap (λ place. made b.id b.node place) same.2
+    let same = neither a.id a.sender a.place b.id b.sender b.place g h in
+    let made : ℕ → ℕ → ℕ → Contender = λ id node place. record { id = id; sender = node; place = place } in
+    ap (λ id. made id a.sender a.place) same.0 ∙ ap (λ node. made b.id node a.place) same.1
+    ∙ ap (λ place. made b.id b.sender place) same.2
 
 -- of a node's frames one is not below another that has a lower identifier, or no higher one and an earlier place
 pub below-later : (i j node place other : ℕ) → i ≤ j → (other < place → i < j)
-    → is_below (record { id = j; node = node; place = other }) (record { id = i; node = node; place = place }) ≡ false
+    → is_below (record { id = j; sender = node; place = other }) (record { id = i; sender = node; place = place }) ≡ false
 below-later i j node place other h k = later i j node place other h k

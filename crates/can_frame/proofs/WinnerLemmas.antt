@@ -85,9 +85,9 @@ length-contenders_of node frames = grind (
 
 pub contender_at : (node : ℕ) (frames : List Waiting) (k : ℕ) (d : Contender) → k < length frames
     → get_or (contenders_of (node, frames)) k d
-    ≡ record { id = slice_index (identifiers frames) k; node = node; place = k }
+    ≡ record { id = slice_index (identifiers frames) k; sender = node; place = k }
 contender_at node frames k d h =
-    let made : ℕ → ℕ → Contender = λ id place. record { id = id; node = node; place = place } in
+    let made : ℕ → ℕ → Contender = λ id place. record { id = id; sender = node; place = place } in
     let of : ℕ × Waiting → Contender = λ e. made e.1.frame.id e.0 in
     get_or-map of (enumerate_from 0 frames) k (0, blank) d (rw length-enumerate_from h)
     ∙ ap of (get_or-enumerate_from 0 frames k (0, blank) h)
@@ -98,9 +98,9 @@ contender_at node frames k d h =
 pub first_wins : (node : ℕ) (frames : List Waiting) (place id : ℕ)
     → IsFirstLeast (identifiers frames) (length frames) place → place < length frames
     → id ≡ slice_index (identifiers frames) place
-    → IsWinner (contenders_of (node, frames)) (Some (record { id = id; node = node; place = place }))
+    → IsWinner (contenders_of (node, frames)) (Some (record { id = id; sender = node; place = place }))
 first_wins node frames place id h within e =
-    let made : ℕ → ℕ → Contender = λ id place. record { id = id; node = node; place = place } in
+    let made : ℕ → ℕ → Contender = λ id place. record { id = id; sender = node; place = place } in
     let many = length-contenders_of node frames in (
       (place, omega arith, contender_at node frames place (made id place) within ∙ ap (λ n. made n place) (sym e)),
       λ k d less.

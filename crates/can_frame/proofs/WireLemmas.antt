@@ -27,7 +27,7 @@ few_step false full bit row rest some short is isnt h =
 is_four : (row : ℕ) → (row == 4) ≡ true → row ≡ 4
 is_four row e = grind (arith, nat_tests)
 
-isnt_four : (row : ℕ) → row ≤ 4 → (row == 4) ≡ false → row < 4
+pub isnt_four : (row : ℕ) → row ≤ 4 → (row == 4) ≡ false → row < 4
 isnt_four row short e = grind (arith, nat_tests)
 
 pub few_stuffed : (last row : ℕ) (bits : List ℕ) → 1 ≤ row → row ≤ 4
@@ -56,10 +56,10 @@ abbrev fits : ℕ → ℕ → List ℕ → Bool
 fits last row [] = true
 fits last row (bit ∷ rest) = if bit == last then nat_lt row 5 && fits last (row + 1) rest else fits bit 1 rest
 
-same_is : (n : ℕ) → (n == n) ≡ true
+pub same_is : (n : ℕ) → (n == n) ≡ true
 same_is n = grind (arith, nat_tests)
 
-other_isnt : (n : ℕ) → (1 - n == n) ≡ false
+pub other_isnt : (n : ℕ) → (1 - n == n) ≡ false
 other_isnt n = grind (arith, nat_tests)
 
 is_equal : (m n : ℕ) → (m == n) ≡ true → m ≡ n

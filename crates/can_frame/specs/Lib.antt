@@ -3,6 +3,7 @@ pub mod Frames
 pub mod Identifiers
 pub mod Least
 pub mod NmtMessages
+pub mod Senders
 pub mod Sent
 pub mod Slots
 pub mod TraceLines

@@ -5,23 +5,23 @@ use Rattle.std.specs.List.{enumerate_from, flat_map}
 use Rattle.can_frame.specs.declared.contender.Contender.{Contender}
 use Rattle.can_frame.specs.declared.waiting.Waiting.{Waiting}
 
--- the frames that wait at a node contend by identifier, node, and place in the node's list
+-- the frames that wait at a sender contend by identifier, sender, and place in the sender's list
 abbrev pub contenders_of : ℕ × List Waiting → List Contender
-contenders_of list = map (λ e. record { id = e.1.frame.id; node = list.0; place = e.0 }) (enumerate_from 0 list.1)
+contenders_of list = map (λ e. record { id = e.1.frame.id; sender = list.0; place = e.0 }) (enumerate_from 0 list.1)
 
--- those of the lists of all nodes
+-- those of the lists of all senders
 abbrev pub contenders : List (ℕ × List Waiting) → List Contender
 contenders lists = flat_map contenders_of lists
 
--- a frame waits at a place of the list of a node
+-- a frame waits at a place of the list of a sender
 abbrev pub WaitsAt : List (ℕ × List Waiting) → ℕ → ℕ → Waiting → Type 0
-WaitsAt lists node place w = (frames : List Waiting)
-    × (Contains lists (node, frames) × (slice_get frames place ≡ Some w))
+WaitsAt lists sender place w = (frames : List Waiting)
+    × (Contains lists (sender, frames) × (slice_get frames place ≡ Some w))
 
--- one is below another by identifier, then node, then place
+-- one is below another by identifier, then sender, then place
 abbrev pub is_below : Contender → Contender → Bool
 is_below a b = nat_lt a.id b.id || (a.id == b.id)
-    && (nat_lt a.node b.node || (a.node == b.node) && nat_lt a.place b.place)
+    && (nat_lt a.sender b.sender || (a.sender == b.sender) && nat_lt a.place b.place)
 
 -- a frame wins that no other is below; there is none where no frame waits
 abbrev pub IsWinner : List Contender → Option Contender → Type 0

@@ -2,15 +2,15 @@
 ghost use Rattle.std.specs.Prelude.{◌≡◌, ◌↔◌, IsTrue};
 ghost use Rattle.can_frame.specs.Winner.{is_below as below, lower as lower_of};
 
-/// A waiting frame as it contends for the bus: what is least by identifier, then node, then place
+/// A waiting frame as it contends for the bus: what is least by identifier, then sender, then place
 /// wins.
 #[derive(Clone, Copy, Debug)]
 pub struct Contender {
     /// The identifier of the frame.
     pub id: u16,
-    /// The number of the node where it waits.
-    pub node: u8,
-    /// Its place in the list of that node.
+    /// Who sends it: `device_sender` or `manager_sender` of a number.
+    pub sender: u16,
+    /// Its place in the list of that sender.
     pub place: usize,
 }
 
@@ -19,7 +19,7 @@ impl Contender {
     pub fn same(&self, other: &Contender) -> bool
         ensures { IsTrue result ↔ (self.now ≡ other.now) }
     {
-        self.id == other.id && self.node == other.node && self.place == other.place
+        self.id == other.id && self.sender == other.sender && self.place == other.place
     }
 
     /// Whether this one is below another.
@@ -29,8 +29,8 @@ impl Contender {
         if self.id != other.id {
             return self.id < other.id;
         }
-        if self.node != other.node {
-            return self.node < other.node;
+        if self.sender != other.sender {
+            return self.sender < other.sender;
         }
         self.place < other.place
     }

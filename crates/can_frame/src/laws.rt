@@ -16,9 +16,9 @@ ghost use Rattle.can_frame.specs.Winner.{contenders, lower, winner_of, IsWinner,
 #[tactic(auto, using(crate::proofs::ContenderLemmas::contenders_both))]
 pub fn what_waits_contends()
     ensures all { (lists : List (ℕ × List Queued)) (node place : ℕ) (w : Queued) → WaitsAt lists node place w
-        → Contains (contenders lists) (record { id = w.frame.id; node = node; place = place }) }
+        → Contains (contenders lists) (record { id = w.frame.id; sender = node; place = place }) }
     ensures only { (lists : List (ℕ × List Queued)) (c : Bid) → Contains (contenders lists) c
-        → (w : Queued) × (WaitsAt lists c.node c.place w × (c.id ≡ w.frame.id)) }
+        → (w : Queued) × (WaitsAt lists c.sender c.place w × (c.id ≡ w.frame.id)) }
 {}
 
 /// There is one winner and no other, and the function names it.
@@ -41,7 +41,7 @@ pub fn the_winner_comes_first()
         → ¬ WaitsAt lists node place w }
     ensures first { (lists : List (ℕ × List Queued)) (c : Bid) (node place : ℕ) (w : Queued)
         → IsWinner (contenders lists) (Some c) → WaitsAt lists node place w
-        → (c.id < w.frame.id) ⊎ ((c.id ≡ w.frame.id) × ((c.node < node) ⊎ ((c.node ≡ node) × (c.place ≤ place)))) }
+        → (c.id < w.frame.id) ⊎ ((c.id ≡ w.frame.id) × ((c.sender < node) ⊎ ((c.sender ≡ node) × (c.place ≤ place)))) }
 {}
 
 /// A frame takes the place of the first one of its purpose, and the others stay; where none of its

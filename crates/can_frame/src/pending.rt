@@ -122,15 +122,15 @@ impl Pending {
         taken
     }
 
-    /// The frame with which a node that has this list contends for the bus: the first of those with
+    /// The frame with which a sender that has this list contends for the bus: the first of those with
     /// the least identifier; `None` where no frame waits. Takes constant time.
-    pub fn contender(&self, node: u8) -> Option<Contender>
-        ensures { IsWinner (contenders_of (node, self.now)) result }
+    pub fn contender(&self, sender: u16) -> Option<Contender>
+        ensures { IsWinner (contenders_of (sender, self.now)) result }
     {
         let waiting = self.frames.get(self.least)?;
         Some(Contender {
             id: waiting.frame.id(),
-            node,
+            sender,
             place: self.least,
         })
     }

@@ -1,108 +1,89 @@
 //! How many bits a frame takes on the wire (ISO 11898-1).
-ghost use Rattle.std.specs.Prelude.{◌≡◌, ◌<◌, ◌≤◌, ◌+◌, ◌*◌, ◌++◌, ◌∷◌, [], ℕ, List, length};
-ghost use Rattle.can_frame.specs.Sent.{HasSent};
-ghost use Rattle.can_frame.specs.WireBits.{bits, exact_bits, with_bit};
+ghost use Rattle.std.specs.Prelude.{◌≡◌, ◌<◌, ◌≤◌, ◌+◌, ◌++◌, ◌∷◌, [], ℕ, List, length};
+ghost use Rattle.can_frame.specs.Sent.{HasSent, IsWire};
+ghost use Rattle.can_frame.specs.WireBits.{bits, checked_bits, crc, exact_bits, stuffed};
 
+use crate::check::with_byte;
 use crate::frame::Frame;
+use crate::slots::slot_bits;
+use crate::stuffing::Stuffing;
 
-/// The polynomial of the check of a frame.
-const POLYNOMIAL: u16 = 0x4599;
-
-/// The bits of a frame behind its check: the delimiter, the acknowledgement's two, seven of the end,
-/// and three of the intermission.
-const BEHIND: u32 = 13;
-
-/// What is known of the bits that have gone over the wire: their check, the last one, how many of
-/// its value stand in a row there, and how many went, stuff bits among them.
+/// What is known of bits that have gone over the wire: their check, and their stuffing.
 #[derive(Clone, Copy)]
 struct Wire {
     check: u16,
-    last: u16,
-    row: u8,
-    count: u32,
-}
-
-/// The register of the check behind one more bit.
-fn with_bit(register: u16, bit: u16) -> u16
-    requires register { register < 0x8000 }
-    ensures next { result ≡ with_bit register bit }
-    ensures small { result < 0x8000 }
-{
-    let shifted = register * 2 % 0x8000;
-    if bit == register >> 14 {
-        shifted
-    } else {
-        shifted ^ POLYNOMIAL
-    }
+    stuffing: Stuffing,
 }
 
 impl Wire {
-    /// Behind the start of frame.
-    fn started() -> Wire
-        ensures sent { HasSent (0 ∷ []) result }
-        ensures few { result.count ≡ 1 }
-        ensures small { result.check < 0x8000 }
+    /// Behind the start of frame and the two highest bits of an identifier. A 1 of the idle bus is sent
+    /// before these three, so that they are four.
+    fn started(highest: u8) -> Wire
+        requires two { highest < 4 }
+        ensures sent { HasSent (bits 3 highest) result }
+        ensures few { result.stuffing.stuff_bits ≤ 1 }
+        ensures wire { IsWire result }
     {
         Wire {
-            check: 0,
-            last: 0,
-            row: 1,
-            count: 1,
+            check: with_byte(0, highest),
+            stuffing: Stuffing::idle().and_four(8 + usize::from(highest)),
         }
     }
 
-    /// Behind one more bit, 0 or 1.
-    fn and_bit(self, bit: u16) -> Wire
-        requires bit { bit ≤ 1 }
-        requires small { self.check < 0x8000 }
-        requires row { self.row ≤ 4 }
-        requires few { self.count ≤ 1000 }
-        ensures sent { (sent : List ℕ) → HasSent sent self → HasSent (sent ++ bit ∷ []) result }
-        ensures few { result.count ≤ self.count + 2 }
-        ensures small { result.check < 0x8000 }
-        ensures row { result.row ≤ 4 }
+    /// Behind one more byte.
+    fn and_byte(self, byte: u8) -> Wire
+        requires few { self.stuffing.stuff_bits ≤ 900 }
+        requires wire { IsWire self }
+        ensures sent { (sent : List ℕ) → HasSent sent self → HasSent (sent ++ bits 8 byte) result }
+        ensures few { result.stuffing.stuff_bits ≤ self.stuffing.stuff_bits + 2 }
+        ensures wire { IsWire result }
     {
-        let check = with_bit(self.check, bit);
-        if bit != self.last {
-            Wire {
-                check,
-                last: bit,
-                row: 1,
-                count: self.count + 1,
-            }
-        } else if self.row < 4 {
-            Wire {
-                check,
-                last: bit,
-                row: self.row + 1,
-                count: self.count + 1,
-            }
-        } else {
-            Wire {
-                check,
-                last: 1 - bit,
-                row: 1,
-                count: self.count + 2,
-            }
+        Wire {
+            check: with_byte(self.check, byte),
+            stuffing: self.stuffing.and_byte(byte),
         }
     }
 
-    /// Behind a number in so many bits, at most 15, highest first.
-    fn and_number(self, width: u32, number: u16) -> Wire
-        requires width { width ≤ 15 }
-        requires small { self.check < 0x8000 }
-        requires row { self.row ≤ 4 }
-        requires few { self.count ≤ 900 }
-        ensures sent { (sent : List ℕ) → HasSent sent self → HasSent (sent ++ bits width number) result }
-        ensures few { result.count ≤ self.count + 2 * width }
-        ensures small { result.check < 0x8000 }
-        ensures row { result.row ≤ 4 }
+    /// Behind the bits of a frame up to its length, which are three bits and two bytes.
+    fn headed(frame: &Frame) -> Wire
+        ensures sent { HasSent (0 ∷ (bits 11 frame.now.id ++ 0 ∷ 0 ∷ 0 ∷ bits 4 (length frame.now.bytes))) result }
+        ensures few { result.stuffing.stuff_bits ≤ 5 }
+        ensures wire { IsWire result }
     {
-        let mut wire = self;
-        for place in 0..width {
-            wire = wire.and_bit(number >> (width - 1 - place) & 1);
+        let id = frame.id();
+        let lowest = (id % 2) as u8;
+        Wire::started((id / 0x200) as u8)
+            .and_byte((id / 2 % 0x100) as u8)
+            .and_byte(lowest * 0x80 + frame.bytes().len() as u8)
+    }
+
+    /// Behind the bits that the check of a frame is of.
+    fn checked(frame: &Frame) -> Wire
+        ensures sent { HasSent (checked_bits frame.now) result }
+        ensures few { result.stuffing.stuff_bits ≤ 21 }
+        ensures wire { IsWire result }
+    {
+        let mut wire = Wire::headed(frame);
+        for byte in frame.bytes() {
+            wire = wire.and_byte(*byte);
         }
         wire
+    }
+
+    /// How many stuff bits there are, once the check has gone too. Behind its 15 bits one of another
+    /// value than the last fills two bytes up: it begins a row, and so adds none.
+    fn stuff_bits(self) -> u32
+        requires few { self.stuffing.stuff_bits ≤ 800 }
+        requires wire { IsWire self }
+        ensures count { (sent : List ℕ) → HasSent sent self
+            → length (stuffed (sent ++ bits 15 (crc sent))) ≡ length sent + 15 + result }
+        ensures few { result ≤ self.stuffing.stuff_bits + 4 }
+    {
+        let two_bytes = self.check * 2 + 1 - self.check % 2;
+        self.stuffing
+            .and_byte((two_bytes / 0x100) as u8)
+            .and_byte((two_bytes % 0x100) as u8)
+            .stuff_bits
     }
 }
 
@@ -113,12 +94,5 @@ pub fn exact_bits(frame: &Frame) -> u32
     ensures most { result ≤ 135 }
     ensures least { 47 ≤ result }
 {
-    let mut wire = Wire::started()
-        .and_number(11, frame.id())
-        .and_number(3, 0)
-        .and_number(4, frame.bytes().len() as u16);
-    for byte in frame.bytes() {
-        wire = wire.and_number(8, u16::from(*byte));
-    }
-    wire.and_number(15, wire.check).count + BEHIND
+    slot_bits(frame) + Wire::checked(frame).stuff_bits()
 }

@@ -15,10 +15,8 @@ is_one slots = record {
   first_day = omega arith;
   heartbeat = omega arith;
   timeout = (omega arith, omega arith);
-  nodes = (
-    (omega arith, omega arith, λ same. omega (arith, same)),
-    ((omega arith, omega arith, λ same. omega (arith, same)), tt),
-  );
+  nodes = ((omega arith, omega arith), ((omega arith, omega arith), tt));
+  controller = λ there. cc;
   differ = ((λ same. omega (arith, same), tt), (tt, tt));
   mandatory = tt;
 }

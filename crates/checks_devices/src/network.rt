@@ -31,7 +31,7 @@ fn show_made(rt: &HostRuntime, nodes: &[Node<'_>], made: &Plan) -> io::Result<()
 
 /// Shows the plan of messages, and the concise DCF of each node.
 fn show_planned(rt: &HostRuntime, nodes: &[Node<'_>], messages: &Messages) -> io::Result<()> {
-    let made = plan(rt.alloc(), false, nodes, messages)?;
+    let made = plan(rt.alloc(), false, None, nodes, messages)?;
     show_made(rt, nodes, &made)
 }
 

@@ -1,6 +1,6 @@
 //! Frames that wait.
 
-use can_frame::{Contender, Frame, Pending, Purpose, Unwanted, winner};
+use can_frame::{Contender, Frame, Pending, Purpose, Unwanted, device_sender, winner};
 use std::alloc::{AllocError, Global};
 use std::io;
 
@@ -35,15 +35,20 @@ fn least(lists: &[Pending]) -> Option<Contender> {
     let mut best = None;
     let mut node = 1;
     for list in lists {
-        best = Contender::lower(best, list.contender(node));
+        best = Contender::lower(best, list.contender(device_sender(node)));
         node = if node < 127 { node + 1 } else { node };
     }
     best
 }
 
-/// Takes the frame at a place out of the list of a node, if it is there.
-fn take(lists: &mut [Pending], node: u8, place: usize) {
-    if let Some(list) = lists.get_mut(usize::from(node.saturating_sub(1)))
+/// The number of a sender.
+fn number_of(sender: u16) -> u16 {
+    sender / 2
+}
+
+/// Takes the frame at a place out of the list of a device, if it is there.
+fn take(lists: &mut [Pending], sender: u16, place: usize) {
+    if let Some(list) = lists.get_mut(usize::from(number_of(sender).saturating_sub(1)))
         && place < list.len()
     {
         let _ = list.take(place);
@@ -52,7 +57,7 @@ fn take(lists: &mut [Pending], node: u8, place: usize) {
 
 /// Prints which frame wins.
 fn show_contender(rt: &HostRuntime, best: &Contender) -> io::Result<()> {
-    println!(rt; "{:03X} {} {}", best.id, best.node, best.place)
+    println!(rt; "{:03X} {} {}", best.id, number_of(best.sender), best.place)
 }
 
 /// Prints the winner, if a frame waits, and takes it out of its list.
@@ -61,7 +66,7 @@ fn show_next(rt: &HostRuntime, lists: &mut [Pending]) -> io::Result<()> {
         return Ok(());
     };
     show_contender(rt, &best)?;
-    take(lists, best.node, best.place);
+    take(lists, best.sender, best.place);
     Ok(())
 }
 
@@ -112,7 +117,8 @@ fn replace(list: &mut Pending, purpose: Purpose, id: u16) -> Result<(), AllocErr
 
 /// Prints the winner of a list and two others.
 fn show_winner(rt: &HostRuntime, list: &Pending, other: &Pending) -> io::Result<()> {
-    match winner(&[(5, list), (4, other), (3, other)]) {
+    let senders = [device_sender(5), device_sender(4), device_sender(3)];
+    match winner(&[(senders[0], list), (senders[1], other), (senders[2], other)]) {
         Some(best) => show_contender(rt, &best),
         None => Ok(()),
     }
@@ -168,7 +174,10 @@ fn show_turn(rt: &HostRuntime, kept: &Kept, turn: &Turn) -> io::Result<()> {
         Turn::Show => show(rt, &kept.list),
         Turn::Winner => show_winner(rt, &kept.list, &kept.copy),
         Turn::IsSame => println!(rt; "same {}", kept.list.same(&kept.copy)),
-        Turn::HasNone => println!(rt; "none {}", winner(&[(5, &kept.list)]).is_none()),
+        Turn::HasNone => println!(rt;
+            "none {}",
+            winner(&[(device_sender(5), &kept.list)]).is_none()
+        ),
         _ => Ok(()),
     }
 }

@@ -50,7 +50,7 @@ pub fn drop_of(pending: &mut Pending, unwanted: Unwanted) {
     pending.drop_of(unwanted);
 }
 
-/// The frame that wins the bus, among those that wait at nodes of these numbers.
-pub fn first(lists: &[(u8, &Pending)]) -> Option<Contender> {
+/// The frame that wins the bus, among those that wait at these senders.
+pub fn first(lists: &[(u16, &Pending)]) -> Option<Contender> {
     winner(lists)
 }

@@ -10,14 +10,16 @@ use eds_dcf::Device;
 use pdo_links::{Plan, PlannedMessage, plan, writes};
 use std::alloc::{AllocError, Global};
 
-/// The plan of messages, over the devices of their nodes, of version 3 or of those before.
+/// The plan of messages, over the devices of their nodes, of version 3 or of those before, and the node that the
+/// manager runs in.
 pub fn planned(
     alloc: Global,
     is_three: bool,
+    controller: Option<u8>,
     nodes: &[(u8, &Device)],
     messages: &Messages,
 ) -> Result<Plan, AllocError> {
-    plan(alloc, is_three, nodes, messages)
+    plan(alloc, is_three, controller, nodes, messages)
 }
 
 /// Each message with its identifier and PDOs, or with its faults.

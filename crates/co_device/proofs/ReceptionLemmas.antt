@@ -5,7 +5,8 @@ use Rattle.std.proofs.lemmas.Bool.{eqb-true}
 use Rattle.can_frame.specs.Frames.{BaseFrame}
 use Rattle.can_frame.specs.Identifiers.{error_control_id, nmt_id, sdo_request_id}
 use Rattle.device_objects.specs.Profile.{sync_identifier}
-use Rattle.device_objects.specs.Reception.{is_addressed, is_error_control, nmt_reception, reception_with_power}
+use Rattle.device_objects.specs.Reception.{error_control_reception, is_addressed, is_error_control, nmt_reception}
+use Rattle.device_objects.specs.Reception.{reception_with_power}
 use Rattle.device_objects.specs.declared.reception.Reception.{Reception}
 use Rattle.device_objects.specs.declared.reception.Reception.TheVariants.{Nothing, NmtService, Sync, SdoRequest}
 use Rattle.device_objects.specs.declared.reception.Reception.TheVariants.{ErrorControl, Pdo}
@@ -70,6 +71,11 @@ module _ (frame : BaseFrame) (d : Device) where
         is_whole = eqb-true (length frame.bytes) 8 both.1;
       }
 
+  control_says : d.has_power ≡ true → is_error_control frame ≡ true
+      → Fits (error_control_reception d.number (frame.id - error_control_id 0))
+  control_says on e = either Fits ((frame.id - error_control_id 0) == d.number) _ _ (λ own. tt)
+      (λ other. record { has_power = on; is_control = e; is_producer = refl })
+
   powered_says : d.has_power ≡ true
       → Fits (reception_with_power d.number (sync_identifier d.learnt d.values) frame)
   unfolding reception_with_power
@@ -78,8 +84,7 @@ module _ (frame : BaseFrame) (d : Device) where
       (λ other. either Fits (frame.id == sync_identifier d.learnt d.values) _ _
       (λ e. record { has_power = on; is_sync = eqb-true frame.id (sync_identifier d.learnt d.values) e })
       (λ other. either Fits ((frame.id == sdo_request_id d.number) && (length frame.bytes == 8)) _ _ (request_says on)
-      (λ other. either Fits (is_error_control frame) _ _
-      (λ e. record { has_power = on; is_control = e; is_producer = refl }) (λ other. on))))
+      (λ other. either Fits (is_error_control frame) _ _ (control_says on) (λ other. on))))
 
   pub reception_says : Says (reception frame d) frame d
   unfolding reception

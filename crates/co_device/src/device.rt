@@ -3,6 +3,7 @@
 ghost use Rattle.std.specs.Prelude.{◌≡◌, ◌↔◌, ◌<◌, ◌≤◌, Some, false, length, remove, slice_get, IfOk, OnOk, OnErr};
 ghost use Rattle.std.specs.Prelude.{IsErr, IsTrue};
 ghost use Rattle.image_parts.specs.Record.{GoesBy, Lasts};
+ghost use Rattle.can_frame.specs.Senders.{device_sender as device_sender_of};
 ghost use Rattle.can_frame.specs.Winner.{contenders_of, IsWinner};
 ghost use Rattle.co_values.specs.Values.{longest_value};
 ghost use Rattle.co_device.specs.Device.{is_in as is_in_state, next_due, after_power, after_instant, after_set};
@@ -11,7 +12,7 @@ ghost use Rattle.co_device.specs.Receiving.{after_frame};
 ghost use Rattle.cia301.specs.PdoObjects.{is_of_pdos};
 
 use base::{Octets, Shared, earlier};
-use can_frame::{Contender, Frame, Pending, Waiting};
+use can_frame::{Contender, Frame, Pending, Waiting, device_sender};
 use cia301::NmtState;
 use co_dict::Dict;
 use co_sdo::transfer::{self, Transfer};
@@ -252,9 +253,9 @@ impl Device {
     /// The frame with which it contends for the bus: the first of those waiting that have the least
     /// identifier. Takes constant time.
     pub fn contender(&self) -> Option<Contender>
-        ensures { IsWinner (contenders_of (self.now.number, self.now.waiting)) result }
+        ensures { IsWinner (contenders_of (device_sender_of self.now.number, self.now.waiting)) result }
     {
-        self.waiting.contender(self.number)
+        self.waiting.contender(device_sender(self.number))
     }
 
     /// Takes the waiting frame at a place for the bus; the others keep their order.

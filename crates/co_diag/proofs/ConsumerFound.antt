@@ -48,13 +48,13 @@ consumer_by numbers node place c h = by (place.0 == 0x1016) (nat_le 1 place.1) (
     by false t o object numbered there h = cc
 
 -- it is unfit
-unfit_by : (time : ℕ → Option ℕ) (c : HeartbeatConsumer) (d : Diag) → consumer_diagnostic time c ≡ Some d
-    → (is_unfit time c.number ≡ true) × (diagnostic UnfitConsumer (of.Node c.node (Some c.sub)) ≡ d)
-unfit_by time c d h = by (is_unfit time c.number) refl h
+unfit_by : (time : ℕ → ℕ → Option ℕ) (c : HeartbeatConsumer) (d : Diag) → consumer_diagnostic time c ≡ Some d
+    → (is_unfit (time c.node) c.number ≡ true) × (diagnostic UnfitConsumer (of.Node c.node (Some c.sub)) ≡ d)
+unfit_by time c d h = by (is_unfit (time c.node) c.number) refl h
   where
-    by : (t : Bool) → is_unfit time c.number ≡ t
+    by : (t : Bool) → is_unfit (time c.node) c.number ≡ t
         → (if t then Some (diagnostic UnfitConsumer (of.Node c.node (Some c.sub))) else None) ≡ Some d
-        → (is_unfit time c.number ≡ true) × (diagnostic UnfitConsumer (of.Node c.node (Some c.sub)) ≡ d)
+        → (is_unfit (time c.node) c.number ≡ true) × (diagnostic UnfitConsumer (of.Node c.node (Some c.sub)) ≡ d)
     by true unfit h = let same : diagnostic UnfitConsumer (of.Node c.node (Some c.sub)) ≡ d = cc in (unfit, same)
     by false unfit h = cc
 

@@ -14,6 +14,7 @@ use Rattle.diag_lines.specs.declared.code.Code.TheVariants.{NoDummy, BadIdentifi
 use Rattle.diag_lines.specs.declared.code.Code.TheVariants.{SharedIdentifier, NotModelled, RemoteType, NoSync}
 use Rattle.diag_lines.specs.declared.code.Code.TheVariants.{UnfitConsumer, SkippedLine, OtherCounter, UnreachedStart}
 use Rattle.diag_lines.specs.declared.code.Code.TheVariants.{UnplannedTpdo, UnplannedRpdo, BesideLimits, UselessReceive}
+use Rattle.diag_lines.specs.declared.code.Code.TheVariants.{IdleEvent, OtherHeartbeat}
 use Rattle.diag_lines.specs.declared.subject.Subject.{Subject}
 use Rattle.diag_lines.specs.declared.subject.Subject.TheVariants as of
 use Rattle.diag_lines.specs.declared.diag.Diag.{Diag}
@@ -23,17 +24,19 @@ use Rattle.co_diag.specs.Holds.{HoldsOf, Holds}
 use Rattle.diag_nodes.specs.Found.{diagnostic, unreadable_defaults}
 use Rattle.co_diag.specs.Found.{unfit_parameters, unfit_consumers, shared_identifiers}
 use Rattle.co_diag.specs.Found.{message_faults, message_warnings, unfit_event, skipped_lines, other_counters}
-use Rattle.co_diag.specs.Found.{diagnostics_found, diagnostics_of, vendor_findings}
+use Rattle.co_diag.specs.Found.{diagnostics_found, diagnostics_of, idle_event, other_heartbeats, vendor_findings}
 use Rattle.diag_lines.proofs.OrderLemmas.{diag_total, diag_exact}
 use Rattle.diag_lines.proofs.SetLemmas.{one_list, same_sets, set_is}
 use Rattle.co_diag.proofs.ParameterFound.{parameters_hold, parameters_listed}
 use Rattle.co_diag.proofs.DefaultFound.{defaults_hold, defaults_listed}
 use Rattle.co_diag.proofs.ConsumerFound.{consumers_hold, consumers_listed}
 use Rattle.co_diag.proofs.CounterFound.{counters_hold, counters_listed}
+use Rattle.co_diag.proofs.HeartbeatFound.{heartbeats_hold, heartbeats_listed}
 use Rattle.co_diag.proofs.SharedFound.{shared_hold, shared_listed}
 use Rattle.co_diag.proofs.MessageFound.{messages_hold, messages_listed, no_syncs_listed, remote_types_listed}
 use Rattle.co_diag.proofs.MessageFound.{starts_listed, warnings_hold}
 use Rattle.co_diag.proofs.EventFound.{events_hold, events_listed}
+use Rattle.co_diag.proofs.IdleFound.{idle_hold, idle_listed}
 use Rattle.co_diag.proofs.TextFound.{lines_hold, lines_listed}
 use Rattle.co_diag.proofs.VendorFound.{limits_listed, unplanned_rpdos_listed, unplanned_tpdos_listed, useless_listed}
 use Rattle.co_diag.proofs.VendorFound.{vendor_findings_hold}
@@ -53,6 +56,9 @@ warnings p = flat_map (message_warnings p) (entries p.messages)
 
 abbrev events : Content → List Diag
 events p = filter_map (unfit_event p) (entries p.events)
+
+abbrev idle : Content → List Diag
+idle p = filter_map (idle_event p) (entries p.events)
 
 abbrev lines : Content → List Diag
 lines p = flat_map skipped_lines (entries p.texts)
@@ -79,8 +85,11 @@ to_shared p = to_consumers p ++ shared_identifiers p
 abbrev to_counters : Content → List Diag
 to_counters p = to_shared p ++ other_counters p
 
+abbrev to_heartbeats : Content → List Diag
+to_heartbeats p = to_counters p ++ other_heartbeats p
+
 abbrev to_messages : Content → List Diag
-to_messages p = to_counters p ++ messages p
+to_messages p = to_heartbeats p ++ messages p
 
 abbrev to_warnings : Content → List Diag
 to_warnings p = to_messages p ++ warnings p
@@ -88,18 +97,23 @@ to_warnings p = to_messages p ++ warnings p
 abbrev to_events : Content → List Diag
 to_events p = to_warnings p ++ events p
 
+abbrev to_idle : Content → List Diag
+to_idle p = to_events p ++ idle p
+
 abbrev to_lines : Content → List Diag
-to_lines p = to_events p ++ lines p
+to_lines p = to_idle p ++ lines p
 
 -- what is found holds
 all_hold : (p : Content) (d : Diag) → Contains (diagnostics_found p) d → Holds p d
 unfolding diagnostics_found
 all_hold p d =
     of_either (to_lines p) (vendor_findings p) (Holds p) d
-    (of_either (to_events p) (lines p) (Holds p) d
+    (of_either (to_idle p) (lines p) (Holds p) d
+    (of_either (to_events p) (idle p) (Holds p) d
     (of_either (to_warnings p) (events p) (Holds p) d
     (of_either (to_messages p) (warnings p) (Holds p) d
-    (of_either (to_counters p) (messages p) (Holds p) d
+    (of_either (to_heartbeats p) (messages p) (Holds p) d
+    (of_either (to_counters p) (other_heartbeats p) (Holds p) d
     (of_either (to_shared p) (other_counters p) (Holds p) d
     (of_either (to_consumers p) (shared_identifiers p) (Holds p) d
     (of_either (to_defaults p) (unfit_consumers p) (Holds p) d
@@ -109,9 +123,11 @@ all_hold p d =
     (consumers_hold p d))
     (shared_hold p d))
     (counters_hold p d))
+    (heartbeats_hold p d))
     (messages_hold p d))
     (warnings_hold p d))
     (events_hold p d))
+    (idle_hold p d))
     (lines_hold p d))
     (vendor_findings_hold p d)
 
@@ -125,11 +141,17 @@ module _ (p : Content) (d : Diag) where
   unfolding diagnostics_found
   in_vendor c = Contains-append_right (to_lines p) (vendor_findings p) d c
 
-  up_to_events : Contains (to_events p) d → Contains (diagnostics_found p) d
-  up_to_events c = up_to_lines (Contains-append_left (to_events p) (lines p) d c)
+  up_to_idle : Contains (to_idle p) d → Contains (diagnostics_found p) d
+  up_to_idle c = up_to_lines (Contains-append_left (to_idle p) (lines p) d c)
 
   in_lines : Contains (lines p) d → Contains (diagnostics_found p) d
-  in_lines c = up_to_lines (Contains-append_right (to_events p) (lines p) d c)
+  in_lines c = up_to_lines (Contains-append_right (to_idle p) (lines p) d c)
+
+  up_to_events : Contains (to_events p) d → Contains (diagnostics_found p) d
+  up_to_events c = up_to_idle (Contains-append_left (to_events p) (idle p) d c)
+
+  in_idle : Contains (idle p) d → Contains (diagnostics_found p) d
+  in_idle c = up_to_idle (Contains-append_right (to_events p) (idle p) d c)
 
   up_to_warnings : Contains (to_warnings p) d → Contains (diagnostics_found p) d
   up_to_warnings c = up_to_events (Contains-append_left (to_warnings p) (events p) d c)
@@ -143,8 +165,14 @@ module _ (p : Content) (d : Diag) where
   in_warnings : Contains (warnings p) d → Contains (diagnostics_found p) d
   in_warnings c = up_to_warnings (Contains-append_right (to_messages p) (warnings p) d c)
 
+  up_to_heartbeats : Contains (to_heartbeats p) d → Contains (diagnostics_found p) d
+  up_to_heartbeats c = up_to_messages (Contains-append_left (to_heartbeats p) (messages p) d c)
+
   up_to_counters : Contains (to_counters p) d → Contains (diagnostics_found p) d
-  up_to_counters c = up_to_messages (Contains-append_left (to_counters p) (messages p) d c)
+  up_to_counters c = up_to_heartbeats (Contains-append_left (to_counters p) (other_heartbeats p) d c)
+
+  in_heartbeats : Contains (other_heartbeats p) d → Contains (diagnostics_found p) d
+  in_heartbeats c = up_to_heartbeats (Contains-append_right (to_counters p) (other_heartbeats p) d c)
 
   up_to_shared : Contains (to_shared p) d → Contains (diagnostics_found p) d
   up_to_shared c = up_to_counters (Contains-append_left (to_shared p) (other_counters p) d c)
@@ -153,7 +181,7 @@ module _ (p : Content) (d : Diag) where
   in_counters c = up_to_counters (Contains-append_right (to_shared p) (other_counters p) d c)
 
   in_messages : Contains (messages p) d → Contains (diagnostics_found p) d
-  in_messages c = up_to_messages (Contains-append_right (to_counters p) (messages p) d c)
+  in_messages c = up_to_messages (Contains-append_right (to_heartbeats p) (messages p) d c)
 
   up_to_consumers : Contains (to_consumers p) d → Contains (diagnostics_found p) d
   up_to_consumers c = up_to_shared (Contains-append_left (to_consumers p) (shared_identifiers p) d c)
@@ -202,6 +230,8 @@ all_listed p UnfitConsumer (of.Node n (Some s)) h = in_consumers p _ (consumers_
 all_listed p SkippedLine (of.Eds name line) h = in_lines p _ (lines_listed p name line h)
 all_listed p OtherCounter (of.Node n None) h = in_counters p _ (counters_listed p n h)
 all_listed p UnreachedStart (of.Message name) h = in_warnings p _ (starts_listed p name h)
+all_listed p IdleEvent (of.Event k) h = in_idle p _ (idle_listed p k h)
+all_listed p OtherHeartbeat (of.Node n None) h = in_heartbeats p _ (heartbeats_listed p n h)
 all_listed p UnplannedTpdo (of.Tpdo n k) h = in_vendor p _ (unplanned_tpdos_listed p n k h)
 all_listed p UnplannedRpdo (of.Rpdo n k) h = in_vendor p _ (unplanned_rpdos_listed p n k h)
 all_listed p BesideLimits (of.Limit n i s) h = in_vendor p _ (limits_listed p n i s h)

@@ -3,9 +3,11 @@ pub mod ParameterFound
 pub mod DefaultFound
 pub mod ConsumerFound
 pub mod CounterFound
+pub mod HeartbeatFound
 pub mod SharedFound
 pub mod MessageFound
 pub mod EventFound
+pub mod IdleFound
 pub mod TextFound
 pub mod VendorFound
 pub mod FoundLemmas

@@ -18,7 +18,8 @@ use Rattle.diag_lines.specs.declared.diag.Diag.{Diag}
 use Rattle.diag_lines.specs.Order.{diag_cmp}
 use Rattle.diag_lines.specs.Sets.{sorted_set}
 use Rattle.diag_lines.proofs.ListLemmas.{Contains-first, Contains-later, Contains-cases}
-use Rattle.co_diag.specs.Found.{diagnostics_found, diagnostics_of, message_faults, message_warnings, other_counters}
+use Rattle.co_diag.specs.Found.{diagnostics_found, diagnostics_of, idle_event, message_faults, message_warnings}
+use Rattle.co_diag.specs.Found.{other_counters, other_heartbeats}
 use Rattle.diag_nodes.specs.Found.{parameter_diagnostic}
 use Rattle.co_diag.specs.Found.{shared_identifiers, skipped_lines, unfit_consumers, unfit_event}
 use Rattle.co_diag.specs.Found.{unfit_parameters, vendor_findings}
@@ -152,15 +153,17 @@ unfolding diagnostics_met diagnostics_found
 same_found p d =
     same_before _ _ (vendor_findings p) d
     (same_before _ _ (flat_map skipped_lines (entries p.texts)) d
+    (same_before _ _ (filter_map (idle_event p) (entries p.events)) d
     (same_before _ _ (filter_map (unfit_event p) (entries p.events)) d
     (same_before _ _ (flat_map (message_warnings p) (entries p.messages)) d
     (same_before _ _ (flat_map message_faults (plan_of_project p)) d
+    (same_before _ _ (other_heartbeats p) d
     (same_before _ _ (other_counters p) d
     (same_before _ _ (shared_identifiers p) d
     (same_before _ _ (unfit_consumers p) d
     (same_before (flat_map faults_of_node (members p)) (flat_map unfit_parameters (members p))
     (flat_map unreadable_defaults (members p)) d
-    (nodes_same (members p) d)))))))))
+    (nodes_same (members p) d)))))))))))
 
 pub met_is : (p : Content) → sorted_set diag_cmp (diagnostics_met p) ≡ diagnostics_of p
 met_is p = collected p (diagnostics_met p) (same_found p)

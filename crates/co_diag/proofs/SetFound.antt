@@ -1,12 +1,14 @@
--- An event sets a value exactly where nothing is listed of it.
-use Rattle.std.proofs.Common.{◌≡◌, ◌∙◌, ◌↔◌, ℕ, true, List, Contains, Option, Some, None, Result, Ok, Err, IfSome}
-use Rattle.std.proofs.Common.{refl, ap, subst}
+-- An event does something exactly where nothing is listed of it.
+use Rattle.std.proofs.Common.{◌≡◌, ◌∙◌, ◌↔◌, ◌⊎◌, inl, inr, ◌==◌, ◌&&◌, not, ℕ, Bool, true, false, List, Contains, Option}
+use Rattle.std.proofs.Common.{Some, None, Result, Ok, Err, IfSome, refl, sym, ap, subst}
 use Rattle.std.specs.Prelude.{is_some, option_map, option_and_then}
 use Rattle.std.specs.FinMap.{contains_key, get}
 use Rattle.std.specs.Result.{result_ok}
 use Rattle.base.proofs.EachLemmas.{each_found}
+use Rattle.base.proofs.TableLemmas.{removed_elsewhere}
 use Rattle.co_dict.specs.declared.entry.Entry.{Entry}
 use Rattle.co_dict.specs.Shapes.{Shaped}
+use Rattle.co_dict.proofs.PlaceLemmas.{places_exact, places_total}
 use Rattle.co_scenario.specs.declared.event.Event.{Event}
 use Rattle.co_scenario.specs.declared.event.Event.TheVariants as event
 use Rattle.co_scenario.specs.declared.step.Step.{Step}
@@ -19,9 +21,10 @@ use Rattle.node_parameters.specs.Judgement.{set_bytes}
 use Rattle.eds_device.specs.Sheets.{Sheet, sheet_of}
 use Rattle.project_edits.specs.Versions.{is_three}
 use Rattle.co_project.specs.declared.node.Node.{Node}
-use Rattle.co_project.specs.Project.{Content}
+use Rattle.co_project.specs.Project.{Content, is_controller}
 use Rattle.co_project.specs.Sound.{IsEventOf, IsSound}
 use Rattle.co_project.proofs.SoundLemmas.{nodes_have_texts}
+use Rattle.project_plan.specs.Controller.{producer_time, shape_held}
 use Rattle.project_plan.specs.Events.{bytes_set, set_step, shape_of_node, step_of}
 use Rattle.project_plan.specs.Network.{Member, member_at, with_sheet}
 use Rattle.diag_lines.specs.declared.code.Code.{Code}
@@ -31,14 +34,16 @@ use Rattle.diag_lines.specs.declared.code.Code.TheVariants.{NoDummy, BadIdentifi
 use Rattle.diag_lines.specs.declared.code.Code.TheVariants.{SharedIdentifier, NotModelled, RemoteType, NoSync}
 use Rattle.diag_lines.specs.declared.code.Code.TheVariants.{UnfitConsumer, SkippedLine, OtherCounter, UnreachedStart}
 use Rattle.diag_lines.specs.declared.code.Code.TheVariants.{UnplannedTpdo, UnplannedRpdo, BesideLimits, UselessReceive}
+use Rattle.diag_lines.specs.declared.code.Code.TheVariants.{IdleEvent, OtherHeartbeat}
 use Rattle.diag_lines.specs.declared.diag.Diag.{Diag}
 use Rattle.diag_lines.specs.declared.subject.Subject.{Subject}
 use Rattle.diag_lines.specs.declared.subject.Subject.TheVariants as of
 use Rattle.diag_nodes.specs.Codes.{parameter_code}
 use Rattle.diag_nodes.specs.Found.{diagnostic}
 use Rattle.co_diag.specs.Found.{diagnostics_of, IsUnlisted}
-use Rattle.co_diag.specs.Holds.{SetsUnfitValue, HoldsOf, Holds}
+use Rattle.co_diag.specs.Holds.{HasIdleEvent, SetsUnfitValue, HoldsOf, Holds, is_idle}
 use Rattle.co_diag.proofs.EventFound.{events_hold, events_listed}
+use Rattle.co_diag.proofs.IdleFound.{idle_hold, idle_listed}
 use Rattle.co_diag.proofs.FoundLemmas.{the_list}
 
 -- a node with a data sheet
@@ -49,13 +54,29 @@ something : (o : Option Step) → o ≡ None → is_some o ≡ true → ⊥
 something None is h = cc
 something (Some s) is h = cc
 
-module _ (p : Content) (number : ℕ) where
-  -- ---- what is listed of an event is a fault of what it sets
+-- one test passes, and the other doesn't
+both : (a b : Bool) → (a && not b) ≡ true → (a ≡ true) × (b ≡ false)
+both true false h = (refl, refl)
+both true true h = cc
+both false b h = cc
 
-  of_event : (c : Code) → HoldsOf p c (of.Event number) → (fault : ParameterFault) × SetsUnfitValue p fault number
-  of_event NoEntry h = (parameter.NoEntry, h)
-  of_event NotModelled h = (parameter.NotModelled, h)
-  of_event Unreadable h = (parameter.Unreadable, h)
+-- an entry is among those that a device holds, but for one of the device that the manager runs in
+held : (own : Bool) (shape : Shaped) (place : ℕ × ℕ) → (own ≡ true → place ≡ producer_time → ⊥)
+    → get (shape_held own shape).entries place ≡ get shape.entries place
+held true shape place other = removed_elsewhere places_total places_exact shape.entries producer_time place (other refl)
+held false shape place other = refl
+
+module _ (p : Content) (number : ℕ) where
+  -- ---- what is listed of an event is a fault of what it sets, or that it does nothing
+
+  abbrev Listed : Type 0
+  Listed = ((fault : ParameterFault) × SetsUnfitValue p fault number) ⊎ HasIdleEvent p number
+
+  of_event : (c : Code) → HoldsOf p c (of.Event number) → Listed
+  of_event NoEntry h = inl (parameter.NoEntry, h)
+  of_event NotModelled h = inl (parameter.NotModelled, h)
+  of_event Unreadable h = inl (parameter.Unreadable, h)
+  of_event IdleEvent h = inr h
   of_event NotWritable h = absurd h
   of_event OutsideLimits h = absurd h
   of_event NoObjects h = absurd h
@@ -78,29 +99,51 @@ module _ (p : Content) (number : ℕ) where
   of_event UnplannedTpdo h = absurd h
   of_event UnplannedRpdo h = absurd h
   of_event BesideLimits h = absurd h
+  of_event OtherHeartbeat h = absurd h
   of_event UselessReceive h = absurd h
 
-  listed_is_fault : (d : Diag) → Contains (diagnostics_of p) d → d.subject ≡ of.Event number
-      → (fault : ParameterFault) × SetsUnfitValue p fault number
+  listed_is : (d : Diag) → Contains (diagnostics_of p) d → d.subject ≡ of.Event number → Listed
   unfolding Holds
-  listed_is_fault d c is = of_event d.code (subst (λ (s : Subject). HoldsOf p d.code s) is (((the_list p).exact d).0 c))
+  listed_is d c is = of_event d.code (subst (λ (s : Subject). HoldsOf p d.code s) is (((the_list p).exact d).0 c))
 
   fault_is_listed : (fault : ParameterFault) → SetsUnfitValue p fault number → IsUnlisted p number → ⊥
   fault_is_listed fault sets none =
       let d : Diag = diagnostic (parameter_code fault) (of.Event number) in
       none d (((the_list p).exact d).1 (events_hold p d (events_listed p fault number sets))) refl
 
+  -- one that isn't listed isn't one that does nothing
+  unlisted_is_not_idle : (e : TimedEvent) → get p.events number ≡ Some e → IsUnlisted p number → is_idle p e.event ≡ false
+  unlisted_is_not_idle e there none = by (is_idle p e.event) refl
+    where
+      by : (b : Bool) → is_idle p e.event ≡ b → b ≡ false
+      by false idle = refl
+      by true idle =
+          let d : Diag = diagnostic IdleEvent (of.Event number) in
+          let has : HasIdleEvent p number = record { timed = e; there = there; idle = idle } in
+          absurd (none d (((the_list p).exact d).1 (idle_hold p d (idle_listed p number has))) refl)
+
   -- ---- the value that is set
 
-  module _ (node index sub : ℕ) (text : List ℕ) where
+  module _ (node index sub : ℕ) (text : List ℕ) (idle : is_idle p (event.Set node index sub text) ≡ false) where
+    -- it isn't of the entry that the device lacks that the manager runs in
+    another_entry : is_controller p node ≡ true → ◌≡◌ {A = ℕ × ℕ} (index, sub) producer_time → ⊥
+    another_entry own same =
+        let at : index ≡ 0x1017 = ap (λ (place : ℕ × ℕ). place.0) same in
+        let sub_at : sub ≡ 0 = ap (λ (place : ℕ × ℕ). place.1) same in
+        let does_nothing : is_idle p (event.Set node index sub text) ≡ true =
+        λ i. own i && ((at i == 0x1017) && (sub_at i == 0)) in
+        cc
+
     value_of_member : (m : Member) → member_at p node ≡ Some m
         → bytes_set (shape_of_node p) node index sub text
         ≡ result_ok (set_bytes (entry_at m.sheet node index sub) text node)
     unfolding shape_of_node
     value_of_member m is =
         ap (λ (o : Option Member). option_and_then (λ (shape : Shaped). result_ok (set_bytes
-        (get shape.entries (index, sub)) text node)) (option_map (λ (m : Member). shape_of m.sheet node) o)) is
-        ∙ ap (λ (o : Option Entry). result_ok (set_bytes o text node)) (shape_at m.sheet node index sub)
+        (get shape.entries (index, sub)) text node))
+        (option_map (λ (m : Member). shape_held (is_controller p node) (shape_of m.sheet node)) o)) is
+        ∙ ap (λ (o : Option Entry). result_ok (set_bytes o text node))
+        (held (is_controller p node) (shape_of m.sheet node) (index, sub) another_entry ∙ shape_at m.sheet node index sub)
 
     step_of_member : (m : Member) (r : Result (List ℕ) ParameterFault) → member_at p node ≡ Some m
         → set_bytes (entry_at m.sheet node index sub) text node ≡ r
@@ -111,16 +154,27 @@ module _ (p : Content) (number : ℕ) where
   -- ---- a fault is of an event that sets none
 
   stopped : (fault : ParameterFault) (e : TimedEvent) → get p.events number ≡ Some e → SetsUnfitValue p fault number
-      → is_some (step_of (shape_of_node p) e.event) ≡ true → ⊥
-  stopped fault e there h does =
+      → is_idle p e.event ≡ false → is_some (step_of (shape_of_node p) e.event) ≡ true → ⊥
+  stopped fault e there h busy does =
       let sets : Event = event.Set h.node h.index h.sub h.text in
       let timed : TimedEvent = record { time = h.time; event = sets } in
       let found : get p.events number ≡ Some timed = h.there in
       let same : e ≡ timed = cc in
       let none : step_of (shape_of_node p) sets ≡ None =
-      step_of_member h.node h.index h.sub h.text h.member (Err fault) h.is h.fails in
+      step_of_member h.node h.index h.sub h.text (subst (λ (x : TimedEvent). is_idle p x.event ≡ false) same busy)
+      h.member (Err fault) h.is h.fails in
       something (step_of (shape_of_node p) sets) none
       (subst (λ (x : TimedEvent). is_some (step_of (shape_of_node p) x.event) ≡ true) same does)
+
+  -- what is listed of an event is of one that does nothing
+  idle_or_stopped : (e : TimedEvent) → get p.events number ≡ Some e → is_idle p e.event ≡ false
+      → is_some (step_of (shape_of_node p) e.event) ≡ true → Listed → ⊥
+  idle_or_stopped e there busy does (inl fault) = stopped fault.0 e there fault.1 busy does
+  idle_or_stopped e there busy does (inr h) =
+      let found : get p.events number ≡ Some h.timed = h.there in
+      let same : e ≡ h.timed = cc in
+      let idle : is_idle p e.event ≡ true = subst (λ (x : TimedEvent). is_idle p x.event ≡ true) (sym same) h.idle in
+      cc
 
   -- ---- one that isn't listed does something
 
@@ -150,11 +204,11 @@ module _ (p : Content) (number : ℕ) where
     known e there = each_found (IsEventOf p) p.events number e sound.events there
 
     does_something : (time : ℕ) (e : Event) → get p.events number ≡ Some (record { time = time; event = e })
-        → IsUnlisted p number → is_some (step_of (shape_of_node p) e) ≡ true
+        → is_idle p e ≡ false → IsUnlisted p number → is_some (step_of (shape_of_node p) e) ≡ true
     unfolding IsEventOf
-    does_something time (event.Power node on) there none = refl
-    does_something time (event.Nmt node command) there none = refl
-    does_something time (event.Set node index sub text) there none =
+    does_something time (event.Power node on) there busy none = refl
+    does_something time (event.Nmt node command) there busy none = refl
+    does_something time (event.Set node index sub text) there busy none =
         let is : IsEventOf p number (record { time = time; event = event.Set node index sub text }) =
         known (record { time = time; event = event.Set node index sub text }) there in
         let m = has_member node is.3 in
@@ -163,7 +217,7 @@ module _ (p : Content) (number : ℕ) where
         by : (m : Member) → member_at p node ≡ Some m → (r : Result (List ℕ) ParameterFault)
             → set_bytes (entry_at m.sheet node index sub) text node ≡ r
             → is_some (step_of (shape_of_node p) (event.Set node index sub text)) ≡ true
-        by m is (Ok bytes) given = ap is_some (step_of_member node index sub text m (Ok bytes) is given)
+        by m is (Ok bytes) given = ap is_some (step_of_member node index sub text busy m (Ok bytes) is given)
         by m is (Err fault) given = absurd (fault_is_listed fault (record {
           time = time;
           node = node;
@@ -177,8 +231,12 @@ module _ (p : Content) (number : ℕ) where
         }) none)
 
 pub sets_where_unlisted : (p : Content) (number : ℕ) (e : TimedEvent) → IsSound p → get p.events number ≡ Some e
-    → (is_some (step_of (shape_of_node p) e.event) ≡ true) ↔ IsUnlisted p number
+    → ((is_some (step_of (shape_of_node p) e.event) && not (is_idle p e.event)) ≡ true) ↔ IsUnlisted p number
 sets_where_unlisted p number e sound there = (
-  λ does d c is. let f = listed_is_fault p number d c is in stopped p number f.0 e there f.1 does,
-  λ none. does_something p number sound e.time e.event there none,
+  λ does d c is. let does_both = both (is_some (step_of (shape_of_node p) e.event)) (is_idle p e.event) does
+      in idle_or_stopped p number e there does_both.1 does_both.0 (listed_is p number d c is),
+  λ none. let busy : is_idle p e.event ≡ false = unlisted_is_not_idle p number e there none in
+      let does : is_some (step_of (shape_of_node p) e.event) ≡ true =
+      does_something p number sound e.time e.event there busy none in
+      λ i. does i && not (busy i),
 )

@@ -1,20 +1,23 @@
 -- The times of the producers that heartbeat consumers wait for, and what is found by what is kept of nodes.
 use Rattle.std.proofs.Common.{◌≡◌, ◌==◌, ◌⊎◌, inl, inr, ℕ, Bool, true, false, cond, List, [], ◌∷◌, ◌++◌, filter_map}
 use Rattle.std.proofs.Common.{Contains, Option, Some, None, is_some, refl, sym, ap, subst, ◌∙◌}
-use Rattle.std.specs.Prelude.{if◌then◌else◌, option_map}
+use Rattle.std.specs.Prelude.{◌&&◌, if◌then◌else◌, option_map}
 use Rattle.std.specs.List.{find, flat_map}
+use Rattle.std.specs.Option.{unwrap_or}
 use Rattle.std.proofs.lemmas.Bool.{eq-eqb, eqb-true}
-use Rattle.co_project.specs.Project.{Content}
+use Rattle.co_project.specs.Project.{Content, is_controller}
 use Rattle.project_plan.specs.Network.{Member, member_at, members}
 use Rattle.project_plan.specs.Values.{number_after}
 use Rattle.diag_lines.specs.declared.diag.Diag.{Diag}
 use Rattle.diag_lines.proofs.ListLemmas.{Contains-nil, Contains-first, Contains-later, Contains-cases}
 use Rattle.diag_nodes.specs.declared.consumer.HeartbeatConsumer.{HeartbeatConsumer}
-use Rattle.co_diag.specs.Found.{consumer_diagnostic, counter_diagnostic, other_counters}
-use Rattle.diag_nodes.specs.Found.{consumers, counters, identifiers}
+use Rattle.co_diag.specs.Found.{consumer_diagnostic, counter_diagnostic, heartbeat_diagnostic, other_counters}
+use Rattle.co_diag.specs.Found.{other_heartbeats}
+use Rattle.diag_nodes.specs.Found.{consumers, counters, identifiers, times}
 use Rattle.co_diag.specs.Found.{shared_identifiers, shared_in, unfit_consumers}
-use Rattle.co_diag.specs.Holds.{producer_time}
-use Rattle.diag_nodes.specs.Kept.{time_among, times}
+use Rattle.co_diag.specs.Holds.{producer_time, time_of_node}
+use Rattle.co_diag.specs.Times.{times_heard}
+use Rattle.diag_nodes.specs.Kept.{time_among}
 use Rattle.diag_nodes.specs.Rules.{heartbeat_time, numbers_of, times_in}
 use Rattle.co_diag.specs.Rules.{time_by}
 use Rattle.diag_nodes.proofs.MemberLemmas.{member_found, member_listed}
@@ -74,7 +77,7 @@ module _ (node : ℕ) where
           cc
 
   module _ (p : Content) where
-    abbrev time_of : ℕ × Member → ℕ
+    abbrev time_of : ℕ × Member → Option ℕ
     time_of e = heartbeat_time (numbers_of p e)
 
     time_found : (es : List (ℕ × Member)) → find (λ t. t.0 == node) (flat_map (times_in (numbers_of p)) es)
@@ -90,36 +93,41 @@ module _ (node : ℕ) where
         by false rest = rest
 
     -- by those of all nodes
-    producer_is : time_by p.manager (time_among (times p)) node ≡ producer_time p node
-    unfolding producer_time
-    producer_is =
-        ap (λ o. if node == p.manager.id then Some p.manager.heartbeat_ms else option_map (λ (t : ℕ × ℕ). t.1) o)
-        (time_found (members p) ∙ ap (option_map (λ e. (e.0, time_of e))) (member_is p))
+    time_is : time_by p.manager (time_among (times p)) node ≡ time_by p.manager (time_of_node p) node
+    unfolding times
+    time_is =
+        ap (λ o. if node == p.manager.id then Some p.manager.heartbeat_ms
+        else option_map (λ (t : ℕ × Option ℕ). unwrap_or t.1 0) o) (time_found (members p) ∙ ap (option_map (λ e. (e.0, time_of e))) (member_is p))
         ∙ ap (λ o. if node == p.manager.id then Some p.manager.heartbeat_ms else o) (by (member_at p node))
       where
-        by : (o : Option Member) → option_map (λ (t : ℕ × ℕ). t.1)
+        by : (o : Option Member) → option_map (λ (t : ℕ × Option ℕ). unwrap_or t.1 0)
             (option_map (λ e. (e.0, time_of e)) (option_map (λ m. (node, m)) o))
-            ≡ option_map (λ m. heartbeat_time (number_after p m node)) o
+            ≡ option_map (λ m. unwrap_or (heartbeat_time (number_after p m node)) 0) o
         by None = refl
         by (Some m) = refl
 
+-- as a device hears it
+heard_is : (p : Content) (device node : ℕ) → times_heard p (times p) device node ≡ producer_time p device node
+unfolding producer_time
+heard_is p device node = ap (λ o. if is_controller p device && (node == device) then None else o) (time_is node p)
+
 -- ---- what is found
 
-consumers_found : (p : Content) (ts : List (ℕ × ℕ)) (cs : List HeartbeatConsumer) → ts ≡ times p → cs ≡ consumers p
-    → filter_map (consumer_diagnostic (time_by p.manager (time_among ts))) cs ≡ unfit_consumers p
+consumers_found : (p : Content) (ts : List (ℕ × Option ℕ)) (cs : List HeartbeatConsumer) → ts ≡ times p
+    → cs ≡ consumers p → filter_map (consumer_diagnostic (times_heard p ts)) cs ≡ unfit_consumers p
 unfolding unfit_consumers
 consumers_found p ts cs same are =
-    (λ i. filter_map (consumer_diagnostic (time_by p.manager (time_among (same i)))) (are i))
-    ∙ (λ i. filter_map (consumer_diagnostic (λ node. producer_is node p i)) (consumers p))
+    (λ i. filter_map (consumer_diagnostic (times_heard p (same i))) (are i))
+    ∙ (λ i. filter_map (consumer_diagnostic (λ device node. heard_is p device node i)) (consumers p))
 
-pub configured_found : (p : Content) (ids : List ℕ) (ts : List (ℕ × ℕ)) (cs : List HeartbeatConsumer)
+pub counters_found : (p : Content) (ids : List ℕ) (ts : List (ℕ × Option ℕ)) (cs : List HeartbeatConsumer)
     (ns : List (ℕ × ℕ)) (old first second new : List Diag) → ids ≡ identifiers p → ts ≡ times p → cs ≡ consumers p
-    → ns ≡ counters p → first ≡ old ++ filter_map (consumer_diagnostic (time_by p.manager (time_among ts))) cs
+    → ns ≡ counters p → first ≡ old ++ filter_map (consumer_diagnostic (times_heard p ts)) cs
     → second ≡ first ++ filter_map (shared_in ids) ids
     → new ≡ second ++ filter_map (counter_diagnostic p.sync_counter) ns
     → new ≡ old ++ unfit_consumers p ++ shared_identifiers p ++ other_counters p
 unfolding shared_identifiers other_counters
-configured_found p ids ts cs ns old first second new are_ids are_times are_consumers are_counters one two three =
+counters_found p ids ts cs ns old first second new are_ids are_times are_consumers are_counters one two three =
     three
     ∙ ap (λ (ds : List Diag). ds ++ filter_map (counter_diagnostic p.sync_counter) ns)
     (two
@@ -128,3 +136,12 @@ configured_found p ids ts cs ns old first second new are_ids are_times are_consu
     ∙ ap (λ (xs : List ℕ). old ++ unfit_consumers p ++ filter_map (shared_in xs) xs) are_ids)
     ∙ ap (λ (xs : List (ℕ × ℕ)). old ++ unfit_consumers p ++ filter_map (shared_in (identifiers p)) (identifiers p)
     ++ filter_map (counter_diagnostic p.sync_counter) xs) are_counters
+
+-- and the heartbeats behind these
+pub heartbeats_found : (p : Content) (ts : List (ℕ × Option ℕ)) (before old new : List Diag) → ts ≡ times p
+    → before ≡ old ++ unfit_consumers p ++ shared_identifiers p ++ other_counters p
+    → new ≡ before ++ filter_map (heartbeat_diagnostic p) ts
+    → new ≡ old ++ unfit_consumers p ++ shared_identifiers p ++ other_counters p ++ other_heartbeats p
+unfolding other_heartbeats
+heartbeats_found p ts before old new are_times so_far now =
+    now ∙ (λ i. so_far i ++ filter_map (heartbeat_diagnostic p) (are_times i))

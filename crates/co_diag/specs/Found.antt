@@ -25,23 +25,24 @@ use Rattle.pdo_stations.specs.Devices.{as_made}
 use Rattle.pdo_plan.specs.declared.outcome.Outcome.{Outcome}
 use Rattle.pdo_plan.specs.declared.outcome.Outcome.TheVariants.{Planned, Faulty}
 use Rattle.pdo_plan.specs.declared.planned_message.PlannedMessage.{PlannedMessage}
-use Rattle.co_project.specs.Project.{Content}
+use Rattle.co_project.specs.Project.{Content, is_controller}
 use Rattle.project_plan.specs.Network.{Member, members, plan_of_project}
 use Rattle.diag_lines.specs.declared.code.Code.{Code}
 use Rattle.diag_lines.specs.declared.code.Code.TheVariants.{SharedIdentifier, RemoteType, NoSync, UnfitConsumer}
 use Rattle.diag_lines.specs.declared.code.Code.TheVariants.{SkippedLine, OtherCounter, UnreachedStart, UnplannedTpdo}
 use Rattle.diag_lines.specs.declared.code.Code.TheVariants.{UnplannedRpdo, BesideLimits, UselessReceive}
+use Rattle.diag_lines.specs.declared.code.Code.TheVariants.{IdleEvent, OtherHeartbeat}
 use Rattle.diag_lines.specs.declared.diag.Diag.{Diag}
 use Rattle.diag_nodes.specs.Codes.{parameter_code}
 use Rattle.co_diag.specs.Faults.{message_code}
 use Rattle.diag_nodes.specs.declared.consumer.HeartbeatConsumer.{HeartbeatConsumer}
 use Rattle.diag_nodes.specs.Devices.{device_for}
-use Rattle.co_diag.specs.Holds.{is_useless, producer_time, starts_at_none, type_of, waits_for_none}
+use Rattle.co_diag.specs.Holds.{is_idle, is_useless, producer_time, starts_at_none, type_of, waits_for_none}
 use Rattle.co_diag.specs.Rules.{is_unfit}
 use Rattle.diag_lines.specs.Order.{diag_cmp}
 use Rattle.diag_lines.specs.Sets.{sorted_set}
 use Rattle.diag_nodes.specs.Found.{diagnostic, parameter_diagnostic, unreadable_defaults, consumers, identifiers}
-use Rattle.diag_nodes.specs.Found.{counters}
+use Rattle.diag_nodes.specs.Found.{counters, times}
 use Rattle.co_scenario.specs.declared.event.Event.TheVariants as event
 use Rattle.diag_lines.specs.declared.subject.Subject.TheVariants as of
 
@@ -54,10 +55,10 @@ unfit_parameters e = filter_map (λ own. parameter_diagnostic e own.0) (entries 
 
 -- ---- configured nodes
 
--- a heartbeat consumer that is unfit, by the times of producers
-abbrev pub consumer_diagnostic : (ℕ → Option ℕ) → HeartbeatConsumer → Option Diag
+-- a heartbeat consumer that is unfit, by the times of producers as its device hears them
+abbrev pub consumer_diagnostic : (ℕ → ℕ → Option ℕ) → HeartbeatConsumer → Option Diag
 consumer_diagnostic time c =
-    if is_unfit time c.number then Some (diagnostic UnfitConsumer (of.Node c.node (Some c.sub))) else None
+    if is_unfit (time c.node) c.number then Some (diagnostic UnfitConsumer (of.Node c.node (Some c.sub))) else None
 
 unfoldable pub unfit_consumers : Content → List Diag
 unfit_consumers p = filter_map (consumer_diagnostic (producer_time p)) (consumers p)
@@ -80,6 +81,15 @@ counter_diagnostic sync_counter c =
 
 unfoldable pub other_counters : Content → List Diag
 other_counters p = filter_map (counter_diagnostic p.sync_counter) (counters p)
+
+-- the producer heartbeat time of the device that the manager runs in, where it isn't the manager's
+abbrev pub heartbeat_diagnostic : Content → ℕ × Option ℕ → Option Diag
+heartbeat_diagnostic p t = option_and_then
+    (λ time. if is_controller p t.0 && not (time == p.manager.heartbeat_ms)
+    then Some (diagnostic OtherHeartbeat (of.Node t.0 None)) else None) t.1
+
+unfoldable pub other_heartbeats : Content → List Diag
+other_heartbeats p = filter_map (heartbeat_diagnostic p) (times p)
 
 -- ---- messages
 
@@ -144,6 +154,10 @@ set_fault p number (event.Nmt node command) = None
 abbrev pub unfit_event : Content → ℕ × TimedEvent → Option Diag
 unfit_event p e = set_fault p e.0 e.1.event
 
+-- an event that does nothing
+abbrev pub idle_event : Content → ℕ × TimedEvent → Option Diag
+idle_event p e = if is_idle p e.1.event then Some (diagnostic IdleEvent (of.Event e.0)) else None
+
 -- ---- texts
 
 -- these lines of an EDS aren't used, whichever data types count
@@ -159,8 +173,9 @@ skipped_lines text = lines_of text.0 (content_of text.1).warnings
 unfoldable pub diagnostics_found : Content → List Diag
 diagnostics_found p =
     flat_map unfit_parameters (members p) ++ flat_map unreadable_defaults (members p) ++ unfit_consumers p
-    ++ shared_identifiers p ++ other_counters p ++ flat_map message_faults (plan_of_project p)
+    ++ shared_identifiers p ++ other_counters p ++ other_heartbeats p ++ flat_map message_faults (plan_of_project p)
     ++ flat_map (message_warnings p) (entries p.messages) ++ filter_map (unfit_event p) (entries p.events)
+    ++ filter_map (idle_event p) (entries p.events)
     ++ flat_map skipped_lines (entries p.texts) ++ vendor_findings p
 
 -- THE DIAGNOSTICS of a project: exactly what holds, each once, in order

@@ -4,7 +4,7 @@ use Rattle.std.specs.Prelude.{◌≡◌, ◌≤◌, ℕ, ◌==◌, ◌&&◌, Boo
 use Rattle.std.specs.Prelude.{Some, None, option_and_then, option_map, Err, Contains, not, ◌||◌}
 use Rattle.std.specs.FinMap.{get}
 use Rattle.std.specs.List.{find, flat_map, list_any}
-use Rattle.std.specs.Option.{option_map_or}
+use Rattle.std.specs.Option.{option_map_or, unwrap_or}
 use Rattle.ini_text.specs.Content.{content_of}
 use Rattle.cia301.specs.TransmissionTypes.{is_on_request, is_synchronous, type_of_byte}
 use Rattle.cia301.specs.declared.transmission_type.TransmissionType.{TransmissionType}
@@ -17,7 +17,9 @@ use Rattle.eds_device.specs.Sheets.{Sheet}
 use Rattle.node_parameters.specs.declared.parameter_fault.ParameterFault.{ParameterFault}
 use Rattle.node_parameters.specs.Judgement.{parameter_bytes, set_bytes}
 use Rattle.node_parameters.specs.Parameters.{parameter_text}
-use Rattle.co_scenario.specs.declared.event.Event.TheVariants.{Set}
+use Rattle.co_scenario.specs.declared.event.Event.{Event}
+use Rattle.co_scenario.specs.declared.event.Event.TheVariants.{Set, Power, Nmt}
+use Rattle.co_scenario.specs.declared.timed_event.TimedEvent.{TimedEvent}
 use Rattle.project_edits.specs.Versions.{is_three}
 use Rattle.project_messages.specs.declared.linked.Linked.{Linked}
 use Rattle.project_messages.specs.declared.receive.Receive.{Receive}
@@ -33,7 +35,7 @@ use Rattle.pdo_plan.specs.declared.outcome.Outcome.TheVariants.{Faulty}
 use Rattle.pdo_plan.specs.Plan.{clean_of}
 use Rattle.pdo_plan.specs.declared.planned_message.PlannedMessage.{PlannedMessage}
 use Rattle.co_project.specs.declared.node.Node.{Node}
-use Rattle.co_project.specs.Project.{Content}
+use Rattle.co_project.specs.Project.{Content, is_controller}
 use Rattle.project_plan.specs.Network.{Member, member_at, members, plan_of_project}
 use Rattle.diag_lines.specs.declared.code.Code.{Code}
 use Rattle.diag_lines.specs.declared.code.Code.TheVariants.{NoEntry, Unreadable, OutsideLimits, NotWritable, NoObjects}
@@ -42,12 +44,13 @@ use Rattle.diag_lines.specs.declared.code.Code.TheVariants.{NoDummy, BadIdentifi
 use Rattle.diag_lines.specs.declared.code.Code.TheVariants.{SharedIdentifier, NotModelled, RemoteType, NoSync}
 use Rattle.diag_lines.specs.declared.code.Code.TheVariants.{UnfitConsumer, SkippedLine, OtherCounter, UnreachedStart}
 use Rattle.diag_lines.specs.declared.code.Code.TheVariants.{UnplannedTpdo, UnplannedRpdo, BesideLimits, UselessReceive}
+use Rattle.diag_lines.specs.declared.code.Code.TheVariants.{IdleEvent, OtherHeartbeat}
 use Rattle.diag_lines.specs.declared.subject.Subject.{Subject}
 use Rattle.diag_lines.specs.declared.diag.Diag.{Diag}
 use Rattle.project_plan.specs.Doubtful.{spells_none}
 use Rattle.project_plan.specs.Values.{number_after}
 use Rattle.diag_nodes.specs.Rules.{consumer_at, counter_at, heartbeat_time, identifier_at, numbers_of}
-use Rattle.co_diag.specs.Rules.{is_unfit, time_by}
+use Rattle.co_diag.specs.Rules.{is_unfit, time_by, time_heard}
 use Rattle.diag_nodes.specs.Devices.{device_for}
 use Rattle.node_parameters.specs.declared.parameter_fault.ParameterFault.TheVariants as parameter
 use Rattle.pdo_plan.specs.declared.message_fault.MessageFault.TheVariants as message
@@ -131,11 +134,14 @@ senders_with p id = flat_map (λ e. map (λ place. (e.0, place)) (filter (sends_
 abbrev pub IsShared : Content → ℕ → Type 0
 IsShared p id = (2 ≤ length (senders_with p id)) × (is_restricted id ≡ false)
 
--- the producer heartbeat time (CiA 301, 1017h) of the manager or a node in milliseconds, 0 where it sends none; None
--- where there is no such node
-unfoldable pub producer_time : Content → ℕ → Option ℕ
-producer_time p node =
-    time_by p.manager (λ n. option_map (λ m. heartbeat_time (number_after p m n)) (member_at p n)) node
+-- the producer heartbeat time (CiA 301, 1017h) of a node in milliseconds, 0 where it sends none; None where there is no
+-- such node
+abbrev pub time_of_node : Content → ℕ → Option ℕ
+time_of_node p n = option_map (λ m. unwrap_or (heartbeat_time (number_after p m n)) 0) (member_at p n)
+
+-- that of the manager or a node as a device hears it
+unfoldable pub producer_time : Content → ℕ → ℕ → Option ℕ
+producer_time p device node = time_heard (is_controller p device) device (time_by p.manager (time_of_node p)) node
 
 -- a heartbeat consumer of a node (CiA 301, 1016h) is on, and no such node is there, or its heartbeat doesn't come within
 -- the time
@@ -144,7 +150,7 @@ pub record HasUnfitConsumer (p : Content) (node sub : ℕ) : Type 0 where
   pub consumer : ℕ
   pub is : member_at p node ≡ Some member
   pub there : consumer_at (number_after p member node) (0x1016, sub) ≡ Some consumer
-  pub unfit : is_unfit (producer_time p) consumer ≡ true
+  pub unfit : is_unfit (producer_time p node) consumer ≡ true
 
 -- the synchronous counter overflow value (CiA 301, 1019h) that a node has isn't that of the network
 pub record HasOtherCounter (p : Content) (node : ℕ) : Type 0 where
@@ -153,6 +159,27 @@ pub record HasOtherCounter (p : Content) (node : ℕ) : Type 0 where
   pub is : member_at p node ≡ Some member
   pub there : counter_at (number_after p member node) ≡ Some counter
   pub other : (counter == p.sync_counter) ≡ false
+
+-- the producer heartbeat time of the device that the manager runs in isn't the manager's
+pub record HasOtherHeartbeat (p : Content) (node : ℕ) : Type 0 where
+  pub member : Member
+  pub time : ℕ
+  pub is : member_at p node ≡ Some member
+  pub own : is_controller p node ≡ true
+  pub there : heartbeat_time (number_after p member node) ≡ Some time
+  pub other : (time == p.manager.heartbeat_ms) ≡ false
+
+-- an event does nothing: it switches the power of the device that the manager runs in, or sets its producer heartbeat
+-- time
+abbrev pub is_idle : Content → Event → Bool
+is_idle p (Set node index sub text) = is_controller p node && ((index == 0x1017) && (sub == 0))
+is_idle p (Power node on) = is_controller p node
+is_idle p (Nmt node command) = false
+
+pub record HasIdleEvent (p : Content) (number : ℕ) : Type 0 where
+  pub timed : TimedEvent
+  pub there : get p.events number ≡ Some timed
+  pub idle : is_idle p timed.event ≡ true
 
 -- a line of the text of an EDS that isn't used
 pub record SkipsLine (p : Content) (name : List ℕ) (line : ℕ) : Type 0 where
@@ -242,6 +269,8 @@ HoldsOf p UnfitConsumer (of.Node node (Some sub)) = HasUnfitConsumer p node sub
 HoldsOf p SkippedLine (of.Eds name line) = SkipsLine p name line
 HoldsOf p OtherCounter (of.Node node None) = HasOtherCounter p node
 HoldsOf p UnreachedStart (of.Message name) = HasMessage p (starts_at_none p) name
+HoldsOf p IdleEvent (of.Event number) = HasIdleEvent p number
+HoldsOf p OtherHeartbeat (of.Node node None) = HasOtherHeartbeat p node
 HoldsOf p UnplannedTpdo (of.Tpdo node number) = SendsUnplanned p node number
 HoldsOf p UnplannedRpdo (of.Rpdo node number) = TakesUnplanned p node number
 HoldsOf p BesideLimits (of.Limit node index sub) = IsWrittenBesideLimits p node index sub

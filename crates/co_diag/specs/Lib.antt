@@ -5,3 +5,4 @@ pub mod Holds
 pub mod Lines
 pub mod Rules
 pub mod Sheets
+pub mod Times

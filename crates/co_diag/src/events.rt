@@ -2,10 +2,12 @@
 ghost use Rattle.std.specs.Prelude.{◌≡◌, ◌++◌, OnOk, IfOk, filter_map};
 ghost use Rattle.std.specs.FinMap as table;
 ghost use Rattle.diag_nodes.specs.Devices.{AreAllRead};
-ghost use Rattle.co_diag.specs.Found.{set_fault, unfit_event};
+ghost use Rattle.co_diag.specs.Found.{idle_event, set_fault, unfit_event};
+ghost use Rattle.co_diag.specs.Holds.{is_idle as does_nothing};
 
+use co_project::Project;
 use co_scenario::Event;
-use diag_lines::{Diag, Subject};
+use diag_lines::{Code, Diag, Subject};
 use diag_nodes::{device_for, parameter_code};
 use node_parameters::judge_set;
 use project_plan::Library;
@@ -55,6 +57,39 @@ pub(crate) fn find_unfit_events(
     for (number, timed) in library.project().events().iter() {
         if let Some(diag) = unfit_event(alloc, library, *number, &timed.event)? {
             found.push(diag)?;
+        }
+    }
+    Ok(())
+}
+
+/// Whether an event does nothing: it switches the power of the device that the manager runs in, or sets its producer
+/// heartbeat time.
+fn is_idle(project: &Project, event: &Event) -> bool
+    ensures { result ≡ does_nothing project.now event.now }
+{
+    match event {
+        Event::Set {
+            node,
+            index,
+            sub,
+            ..
+        } => project.is_controller(*node) && *index == 0x1017 && *sub == 0,
+        Event::Power { node, .. } => project.is_controller(*node),
+        Event::Nmt { .. } => false,
+    }
+}
+
+/// Finds the events that do nothing.
+pub(crate) fn find_idle_events(found: &mut Vec<Diag>, project: &Project) -> Result<(), AllocError>
+    ensures { OnOk result (found.new.items ≡ found.old.items ++ filter_map (idle_event project.now)
+        (table.entries project.now.events)) }
+{
+    for (number, timed) in project.events().iter() {
+        if is_idle(project, &timed.event) {
+            found.push(Diag {
+                code: Code::IdleEvent,
+                subject: Subject::Event(*number),
+            })?;
         }
     }
     Ok(())

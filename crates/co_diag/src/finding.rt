@@ -2,16 +2,16 @@
 ghost use Rattle.std.specs.Prelude.{◌≡◌, ◌++◌, IfOk, OnOk};
 ghost use Rattle.project_plan.specs.Network.{plan_of_project};
 ghost use Rattle.diag_nodes.specs.Devices.{AreAllRead};
-ghost use Rattle.diag_nodes.specs.Found.{consumers, counters, identifiers};
-ghost use Rattle.co_diag.specs.Found.{diagnostics_of, other_counters};
+ghost use Rattle.diag_nodes.specs.Found.{consumers, counters, identifiers, times};
+ghost use Rattle.co_diag.specs.Found.{diagnostics_of, other_counters, other_heartbeats};
 ghost use Rattle.co_diag.specs.Found.{shared_identifiers, unfit_consumers};
-ghost use Rattle.diag_nodes.specs.Kept.{times};
 ghost use Rattle.co_diag.specs.Sheets.{diagnostics_met};
 
 use crate::consumers::find_unfit_consumers;
 use crate::counters::find_other_counters;
-use crate::events::find_unfit_events;
+use crate::events::{find_idle_events, find_unfit_events};
 use crate::found_before::FoundBefore;
+use crate::heartbeats::find_other_heartbeats;
 use crate::messages::{find_message_faults, find_warnings};
 use crate::shared::find_shared;
 use crate::texts::find_skipped_lines;
@@ -34,11 +34,12 @@ fn find_of_configured(
     requires times { kept.now.times.items ≡ times project.now }
     requires counters { kept.now.counters.items ≡ counters project.now }
     ensures { OnOk result (found.new.items ≡ found.old.items ++ unfit_consumers project.now
-        ++ shared_identifiers project.now ++ other_counters project.now) }
+        ++ shared_identifiers project.now ++ other_counters project.now ++ other_heartbeats project.now) }
 {
     find_unfit_consumers(found, project, &kept.times, &kept.consumers)?;
     find_shared(found, &kept.identifiers)?;
     find_other_counters(found, project, &kept.counters)?;
+    find_other_heartbeats(found, project, &kept.times)?;
     Ok(())
 }
 
@@ -61,6 +62,7 @@ fn find_all(
     find_message_faults(&mut list, alloc, plan)?;
     find_warnings(&mut list, alloc, library.project())?;
     find_unfit_events(&mut list, alloc, library)?;
+    find_idle_events(&mut list, library.project())?;
     find_skipped_lines(&mut list, alloc, library, &mut before.lines)?;
     find_in_version_3(&mut list, alloc, library, plan)?;
     Ok(list)

@@ -1,5 +1,5 @@
 //! Laws of the diagnostics of a project.
-ghost use Rattle.std.specs.Prelude.{◌≡◌, ◌↔◌, ℕ, true, is_some, List, Some};
+ghost use Rattle.std.specs.Prelude.{◌≡◌, ◌↔◌, ◌&&◌, not, ℕ, true, is_some, List, Some};
 ghost use Rattle.std.specs.FinMap.{get};
 ghost use Rattle.co_scenario.specs.declared.timed_event.TimedEvent.{TimedEvent};
 ghost use Rattle.co_project.specs.Project.{Content};
@@ -8,7 +8,7 @@ ghost use Rattle.project_plan.specs.Events.{shape_of_node, step_of};
 ghost use Rattle.diag_lines.specs.declared.diag.Diag.{Diag};
 ghost use Rattle.diag_lines.specs.Order.{diag_cmp};
 ghost use Rattle.diag_lines.specs.Sets.{IsListOf};
-ghost use Rattle.co_diag.specs.Holds.{Holds};
+ghost use Rattle.co_diag.specs.Holds.{Holds, is_idle};
 ghost use Rattle.co_diag.specs.Found.{diagnostics_of, IsUnlisted};
 
 /// The diagnostics are exactly what holds of the project, each once, in order.
@@ -25,5 +25,5 @@ pub fn what_holds_determines_the_list()
 /// An event of a sound project does something, as set a value, exactly where nothing is listed of it.
 pub fn an_event_sets_a_value_where_nothing_is_listed_of_it()
     ensures { (p : Content) (number : ℕ) (e : TimedEvent) → IsSound p → get p.events number ≡ Some e
-        → (is_some (step_of (shape_of_node p) e.event) ≡ true) ↔ IsUnlisted p number }
+        → ((is_some (step_of (shape_of_node p) e.event) && not (is_idle p e.event)) ≡ true) ↔ IsUnlisted p number }
 {}

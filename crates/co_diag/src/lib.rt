@@ -6,6 +6,7 @@ mod counters;
 mod events;
 mod finding;
 mod found_before;
+mod heartbeats;
 pub mod laws;
 mod lines_found;
 mod messages;

@@ -38,7 +38,7 @@ use Rattle.co_project.specs.declared.node.Node.{Node}
 use Rattle.co_project.specs.Tables.{Texts, Nodes, name_taken, has_no_room, is_used, is_named, is_of}
 use Rattle.co_project.specs.Tables.{is_of_known, has_mandatory, put_node, node_after_put, with_need, with_param}
 use Rattle.co_project.specs.Tables.{without_param}
-use Rattle.co_project.specs.Project.{Content, first, accept, receive_by, with_nodes}
+use Rattle.co_project.specs.Project.{Content, first, accept, has_controller, receive_by, with_nodes}
 use Rattle.base.specs.Tables.{Each}
 use Rattle.co_project.specs.Sound.{AreTexts, AreParams, AreTimeStampsOf, IsNodeOf, IsMessageOf, IsEventOf, IsSound}
 use Rattle.base.proofs.EachLemmas.{each_empty, each_fails, each_found, each_put, each_removed, each_weaker, fewer}
@@ -113,6 +113,12 @@ other_number : {X : Type 0} (m : FinMap nat_cmp X) (id n : ℕ) (x : X) → cont
     → (n == id) ≡ false
 other_number m id n x none there = false_from_ne_true (n == id)
     (λ same. true≢false (sym (rw (sym (eqb-true n id same), there) refl) ∙ none))
+
+-- where the manager's number isn't a node's, or need not be another, no node has it, or may have it
+apart_from_manager : {X : Type 0} (m : FinMap nat_cmp X) (third : Bool) (manager id : ℕ) (x : X)
+    → (not third && contains_key m manager) ≡ false → get m id ≡ Some x → (not third && (id == manager)) ≡ false
+apart_from_manager m true manager id x free there = refl
+apart_from_manager m false manager id x free there = other_number m manager id x free there
 
 -- ---- nodes
 
@@ -246,14 +252,15 @@ optional_fits false = refl
 
 -- a node, new or with another name and EDS
 renamed_node : (p : Content) (id : ℕ) (name eds : List ℕ) → IsSound p → IsEdit (edit.Node id name eds)
-    → contains_key p.texts eds ≡ true → (id == p.manager.id || name_taken p.nodes id name) ≡ false
+    → contains_key p.texts eds ≡ true
+    → (not (is_three p.version) && (id == p.manager.id) || name_taken p.nodes id name) ≡ false
     → (found : Option Node) → get p.nodes id ≡ found → IsNodeOf p id (node_after_put name eds found)
 unfolding IsEdit IsNodeOf
 renamed_node p id name eds sound h there free None none =
-    let parts = or_parts (id == p.manager.id) (name_taken p.nodes id name) free in
+    let parts = or_parts (not (is_three p.version) && (id == p.manager.id)) (name_taken p.nodes id name) free in
     (h.0, parts.0, h.1, parts.1, h.2, there, no_params, optional_fits (is_one p.version))
 renamed_node p id name eds sound h there free (Some node) found =
-    let parts = or_parts (id == p.manager.id) (name_taken p.nodes id name) free in
+    let parts = or_parts (not (is_three p.version) && (id == p.manager.id)) (name_taken p.nodes id name) free in
     let old : IsNodeOf p id node = found_node p sound id node found in
     (h.0, parts.0, h.1, parts.1, h.2, there, params_of p id node old, need_fits p id node old)
 
@@ -290,12 +297,12 @@ stamps_fit p (Some stamps) three are = (three, are)
 -- ---- one edit
 
 module _ (p : Content) (sound : IsSound p) where
-  -- another version, which fits the nodes, the messages and the time stamps
+  -- another version, which fits the nodes, the messages, the time stamps and the controller
   version_keeps : (version : ScriptVersion) → (is_one version && has_mandatory p.nodes) ≡ false
-      → (not (is_three version) && (have_receives p.messages || is_some p.time_stamps)) ≡ false
+      → (not (is_three version) && (have_receives p.messages || is_some p.time_stamps || has_controller p)) ≡ false
       → IsSound (record p { version = version })
   unfolding IsNodeOf IsMessageOf IsEventOf
-  version_keeps version h fits = let parts = both_fit (is_three version) _ _ fits in record {
+  version_keeps version h fits = record {
     bitrate = sound.bitrate;
     horizon = sound.horizon;
     manager = sound.manager;
@@ -308,11 +315,19 @@ module _ (p : Content) (sound : IsSound p) where
     events = sound.events;
   }
     where
+      apart : ((not (is_three version) && (have_receives p.messages || is_some p.time_stamps)) ≡ false)
+          × ((not (is_three version) && has_controller p) ≡ false)
+      apart = both_fit (is_three version) (have_receives p.messages || is_some p.time_stamps) (has_controller p) fits
+
+      parts : ((not (is_three version) && have_receives p.messages) ≡ false)
+          × ((not (is_three version) && is_some p.time_stamps) ≡ false)
+      parts = both_fit (is_three version) (have_receives p.messages) (is_some p.time_stamps) apart.0
+
       node_of_it : (id : ℕ) (node : Node) → get p.nodes id ≡ Some node → IsNodeOf p id node
           → IsNodeOf (record p { version = version }) id node
       node_of_it id node there is = (
         is.0,
-        is.1,
+        apart_from_manager p.nodes (is_three version) p.manager.id id node apart.1 there,
         is.2,
         is.3,
         is.4,
@@ -354,7 +369,7 @@ module _ (p : Content) (sound : IsSound p) where
   }
 
   -- another manager
-  manager_keeps : (m : ManagerSettings) → IsManager m → contains_key p.nodes m.id ≡ false
+  manager_keeps : (m : ManagerSettings) → IsManager m → (not (is_three p.version) && contains_key p.nodes m.id) ≡ false
       → IsSound (record p { manager = m })
   unfolding IsNodeOf IsMessageOf IsEventOf
   manager_keeps m h free = record {
@@ -374,7 +389,7 @@ module _ (p : Content) (sound : IsSound p) where
           → IsNodeOf (record p { manager = m }) id node
       node_of_it id node there is = (
         is.0,
-        other_number p.nodes m.id id node free there,
+        apart_from_manager p.nodes (is_three p.version) m.id id node free there,
         is.2,
         is.3,
         is.4,
@@ -463,7 +478,7 @@ module _ (p : Content) (sound : IsSound p) where
 
   -- a node, new or with another name and EDS
   node_keeps : (id : ℕ) (name eds : List ℕ) → IsEdit (edit.Node id name eds) → contains_key p.texts eds ≡ true
-      → (id == p.manager.id || name_taken p.nodes id name) ≡ false
+      → (not (is_three p.version) && (id == p.manager.id) || name_taken p.nodes id name) ≡ false
       → IsSound (record p { nodes = put_node p.nodes id name eds })
   node_keeps id name eds h there free = node_put p sound id (node_after_put name eds (get p.nodes id))
       (renamed_node p id name eds sound h there free (get p.nodes id) refl)
@@ -691,7 +706,7 @@ unfolding accept IsEdit
 edits_keep_sound p q (edit.Version version) sound h taken =
     let e = passed _ _ _ q taken in
     let fits = or_parts (is_one version && has_mandatory p.nodes)
-    (not (is_three version) && (have_receives p.messages || is_some p.time_stamps)) e.0 in
+    (not (is_three version) && (have_receives p.messages || is_some p.time_stamps || has_controller p)) e.0 in
     subst IsSound e.1 (version_keeps p sound version fits.0 fits.1)
 edits_keep_sound p q (edit.Bitrate rate) sound h taken = subst IsSound (the_same _ q taken)
     (bitrate_keeps p sound rate h)

@@ -1,6 +1,6 @@
 -- The project, and what edits do to it (this profile's own).
 use Rattle.std.specs.Prelude.{ℕ, Bool, false, ◌||◌, ◌&&◌, not, ◌==◌, List, [], ◌∷◌, refl, Result, Ok, Err}
-use Rattle.std.specs.Prelude.{Option, None, is_some}
+use Rattle.std.specs.Prelude.{Option, Some, None, is_some, if◌then◌else◌}
 use Rattle.std.specs.Coded.{Coded, code_by, coded×, coded_ℕ, coded_list, coded_option}
 use Rattle.std.specs.FinMap.{code, contains_key, empty, insert, remove}
 use Rattle.co_scenario.specs.declared.timed_event.TimedEvent.{TimedEvent}
@@ -109,19 +109,33 @@ with_nodes p (Err fault) = Err fault
 abbrev pub receive_by : ℕ → ℕ → Receive
 receive_by rpdo event = record { rpdo = rpdo; event = event }
 
+-- ---- the controller: a node of the manager's number, in which the manager runs
+
+abbrev pub has_controller : Content → Bool
+has_controller p = contains_key p.nodes p.manager.id
+
+abbrev pub controller_of : Content → Option ℕ
+controller_of p = if has_controller p then Some p.manager.id else None
+
+-- it is the node of this number
+abbrev pub is_controller : Content → ℕ → Bool
+is_controller p id = has_controller p && (id == p.manager.id)
+
+-- ---- edits
+
 -- THE EDIT: the project that an edit makes of a project, or the first fault that applies
 unfoldable pub accept : Content → Edit → Result Content EditFault
 accept p (edit.Version version) =
     unless ((
       is_one version && has_mandatory p.nodes
-          || not (is_three version) && (have_receives p.messages || is_some p.time_stamps),
+          || not (is_three version) && (have_receives p.messages || is_some p.time_stamps || has_controller p),
       InUse,
     ) ∷ [])
     (record p { version = version })
 accept p (edit.Bitrate rate) = Ok (record p { bitrate = rate })
 accept p (edit.Horizon time) = Ok (record p { horizon = time })
 accept p (edit.Manager m) =
-    unless ((contains_key p.nodes m.id, Taken) ∷ [])
+    unless ((not (is_three p.version) && contains_key p.nodes m.id, Taken) ∷ [])
     (record p { manager = m })
 accept p (edit.TimeStamps stamps) =
     unless ((not (is_three p.version), Range) ∷ [])
@@ -134,7 +148,8 @@ accept p (edit.DropEds name) =
     unless ((not (contains_key p.texts name), Unknown) ∷ (is_used p.nodes name, InUse) ∷ [])
     (record p { texts = remove p.texts name })
 accept p (edit.Node id name eds) =
-    unless ((not (contains_key p.texts eds), Unknown) ∷ (id == p.manager.id || name_taken p.nodes id name, Taken) ∷ [])
+    unless ((not (contains_key p.texts eds), Unknown)
+    ∷ (not (is_three p.version) && (id == p.manager.id) || name_taken p.nodes id name, Taken) ∷ [])
     (record p { nodes = put_node p.nodes id name eds })
 accept p (edit.Need id mandatory) =
     unless ((is_one p.version, Range) ∷ (not (contains_key p.nodes id), Unknown) ∷ [])

@@ -1,5 +1,5 @@
 -- What every project keeps to, whatever edits made it (this profile's own).
-use Rattle.std.specs.Prelude.{◌≡◌, ◌≤◌, ◌==◌, ◌&&◌, ℕ, true, false, List, All, IfSome}
+use Rattle.std.specs.Prelude.{◌≡◌, ◌≤◌, ◌==◌, ◌&&◌, not, ℕ, true, false, List, All, IfSome}
 use Rattle.std.specs.FinMap.{contains_key, len}
 use Rattle.base.specs.Tables.{Each}
 use Rattle.co_scenario.specs.declared.timed_event.TimedEvent.{TimedEvent}
@@ -25,11 +25,11 @@ AreTexts texts = (len texts ≤ 64) × Each IsEds texts
 unfoldable pub AreParams : Params → Type 0
 AreParams params = (len params ≤ 4096) × Each (λ place text. IsSetting place.0 place.1 text) params
 
--- a node of the project: its number isn't the manager's, its name no other node's, its EDS is there; in version 1 it
--- isn't mandatory
+-- a node of the project: its number isn't the manager's before version 3, its name no other node's, its EDS is there; in
+-- version 1 it isn't mandatory
 unfoldable pub IsNodeOf : Content → ℕ → Node → Type 0
 IsNodeOf p id node =
-    (is_node_number id ≡ true) × ((id == p.manager.id) ≡ false)
+    (is_node_number id ≡ true) × ((not (is_three p.version) && (id == p.manager.id)) ≡ false)
     × (is_name node.name ≡ true) × (name_taken p.nodes id node.name ≡ false)
     × (is_name node.eds ≡ true) × (contains_key p.texts node.eds ≡ true)
     × AreParams node.params

@@ -1,9 +1,11 @@
 //! What a project holds, and what edits do to it.
-ghost use Rattle.std.specs.Prelude.{◌≡◌, ◌↔◌, IfOk, IsErrOf, IsTrue};
+ghost use Rattle.std.specs.Prelude.{◌≡◌, ◌↔◌, ◌&&◌, ◌||◌, ◌==◌, not, is_some, IfOk, IsErrOf, IsTrue};
 ghost use Rattle.project_edits.specs.Accepts.{Accepts};
 ghost use Rattle.project_edits.specs.declared.edit.Edit.TheVariants as edit;
 ghost use Rattle.project_edits.specs.Edits.{IsEdit};
-ghost use Rattle.co_project.specs.Project.{accept, adds, first};
+ghost use Rattle.co_project.specs.Project.{accept, adds, first, has_controller};
+ghost use Rattle.project_messages.specs.Messages.{have_receives};
+ghost use Rattle.project_edits.specs.Versions.{is_three};
 
 use crate::node_events::{is_named, is_of_known};
 use crate::nodes::Nodes;
@@ -193,8 +195,23 @@ impl Contents {
         }
     }
 
+    /// Whether the manager runs in a node: one has its number.
+    pub(crate) fn has_controller(&self) -> bool
+        ensures { result ≡ has_controller self.now }
+    {
+        self.nodes.contains(self.manager.id)
+    }
+
+    /// Whether something is there of which version 3 alone knows: a receive of a message, time stamps, or a node that
+    /// the manager runs in.
+    fn needs_three(&self) -> bool
+        ensures { result ≡ have_receives self.now.messages || is_some self.now.time_stamps || has_controller self.now }
+    {
+        self.messages.have_receives() || self.time_stamps.is_some() || self.has_controller()
+    }
+
     /// Gives the script another version: version 1 only where no node is mandatory, and version 3 alone where
-    /// a message has a receive, or the manager sends time stamps.
+    /// a message has a receive, the manager sends time stamps, or a node has its number.
     #[tactic(auto, unfolding(crate::specs::Project::accept, crate::specs::Project::adds))]
     fn set_version(&mut self, version: ScriptVersion) -> Result<(), EditFault>
         ensures accepts { Accepts self.old self.new result (accept self.old (edit.Version version)) }
@@ -203,20 +220,20 @@ impl Contents {
         if version.is_one() && self.nodes.have_mandatory() {
             return Err(EditFault::InUse);
         }
-        if !version.is_three() && (self.messages.have_receives() || self.time_stamps.is_some()) {
+        if !version.is_three() && self.needs_three() {
             return Err(EditFault::InUse);
         }
         self.version = version;
         Ok(())
     }
 
-    /// Gives the manager other numbers.
+    /// Gives the manager other numbers: that of a node in version 3 alone.
     #[tactic(auto, unfolding(crate::specs::Project::accept, crate::specs::Project::adds))]
     fn manage(&mut self, manager: ManagerSettings) -> Result<(), EditFault>
         ensures accepts { Accepts self.old self.new result (accept self.old (edit.Manager manager)) }
         ensures memory { IsErrOf result EditFault.Memory → IsTrue (adds self.old (edit.Manager manager)) }
     {
-        if self.nodes.contains(manager.id) {
+        if !self.version.is_three() && self.nodes.contains(manager.id) {
             return Err(EditFault::Taken);
         }
         self.manager = manager;
@@ -265,7 +282,14 @@ impl Contents {
         Ok(())
     }
 
-    /// Gives a number a node. A known one keeps all else that it has.
+    /// Whether a number is the manager's alone: in version 3 a node can have it.
+    fn is_managers(&self, id: u8) -> bool
+        ensures { result ≡ not (is_three self.now.version) && (id == self.now.manager.id) }
+    {
+        !self.version.is_three() && id == self.manager.id
+    }
+
+    /// Gives a number a node, the manager's own in version 3 alone. A known one keeps all else that it has.
     #[tactic(auto, unfolding(crate::specs::Project::accept, crate::specs::Project::adds))]
     fn put_node(&mut self, id: u8, name: Octets, eds: Octets) -> Result<(), EditFault>
         ensures accepts { Accepts self.old self.new result (accept self.old (edit.Node id name eds)) }
@@ -274,7 +298,7 @@ impl Contents {
         if !self.texts.contains(eds.as_slice()) {
             return Err(EditFault::Unknown);
         }
-        if id == self.manager.id || self.nodes.name_taken(id, name.as_slice()) {
+        if self.is_managers(id) || self.nodes.name_taken(id, name.as_slice()) {
             return Err(EditFault::Taken);
         }
         self.nodes.put(self.alloc, id, name, eds)?;

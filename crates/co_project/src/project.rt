@@ -6,7 +6,7 @@ ghost use Rattle.ini_text.specs.Content.{content_of};
 ghost use Rattle.project_edits.specs.Accepts.{Accepts};
 ghost use Rattle.project_messages.specs.Messages.{by_name};
 ghost use Rattle.co_project.specs.Tables.{text_at, node_at};
-ghost use Rattle.co_project.specs.Project.{accept, adds, first};
+ghost use Rattle.co_project.specs.Project.{accept, adds, controller_of, first, is_controller};
 ghost use Rattle.co_project.specs.Sound.{IsSound};
 
 use crate::contents::Contents;
@@ -76,13 +76,13 @@ impl Project {
     ///
     /// Range: a node is to be mandatory or optional in version 1, or a receive comes or goes, or time stamps
     /// are asked for or none, in version 1 or 2. Unknown: an EDS, a node, a parameter, a message, a source, a
-    /// sink, a receive or an event that is named isn't there. Taken: the number is the manager's or a node's,
-    /// or the name another node's. InUse: a node is mandatory where version 1 is asked, or a message has a
-    /// receive or there are time stamps where version 1 or 2 is, a node still uses the EDS, a message is sent
-    /// or taken by the node or has a receive of it, or an event is of it. Limit: a 65th text, a 4,097th
-    /// parameter of a node, or a 1,025th message. Memory can come in place of each where the edit gives a
-    /// text, a node, a parameter, a message, a source, a sink, a receive or an event where there is none, and
-    /// changes nothing either.
+    /// sink, a receive or an event that is named isn't there. Taken: the name is another node's, or in version
+    /// 1 or 2 the number is the manager's or a node's. InUse: a node is mandatory where version 1 is asked, or
+    /// a message has a receive, there are time stamps, or a node has the manager's number, where version 1 or 2
+    /// is, a node still uses the EDS, a message is sent or taken by the node or has a receive of it, or an event
+    /// is of it. Limit: a 65th text, a 4,097th parameter of a node, or a 1,025th message. Memory can come in
+    /// place of each where the edit gives a text, a node, a parameter, a message, a source, a sink, a receive or
+    /// an event where there is none, and changes nothing either.
     ///
     /// `drop-eds` and `node` take time by the number of nodes, `version` by that of nodes and messages,
     /// `drop-node` by that of messages, sinks, receives, events and the node's parameters, `drop-message` by
@@ -120,6 +120,24 @@ impl Project {
         ensures { result ≡ self.now.manager }
     {
         self.contents.manager
+    }
+
+    /// The controller: the node, if there is one, of the manager's number, in which the manager runs.
+    pub fn controller(&self) -> Option<u8>
+        ensures { result ≡ controller_of self.now }
+    {
+        if self.contents.has_controller() {
+            Some(self.contents.manager.id)
+        } else {
+            None
+        }
+    }
+
+    /// Whether it is the node of this number.
+    pub fn is_controller(&self, id: u8) -> bool
+        ensures { result ≡ is_controller self.now id }
+    {
+        self.contents.has_controller() && id == self.contents.manager.id
     }
 
     /// The manager's time stamps (CiA 301, TIME), if it sends any.

@@ -5,6 +5,7 @@ use Rattle.std.specs.Prelude.{min, nat_le}
 use Rattle.std.specs.List.{AllByRecursion}
 use Rattle.std.proofs.lemmas.Bool.Decides.{nat_tests}
 use Rattle.can_frame.specs.Frames.{BaseFrame}
+use Rattle.can_frame.specs.Senders.{device_sender}
 use Rattle.can_frame.specs.Winner.{contenders_of, IsWinner}
 use Rattle.can_frame.specs.declared.contender.Contender.{Contender}
 use Rattle.can_frame.specs.declared.waiting.Waiting.{Waiting}
@@ -57,9 +58,9 @@ none_waits node [] found h e = refl
 none_waits node (w ∷ frames) None h e = absurd cc
 none_waits node (w ∷ frames) (Some c) h e = absurd cc
 
-pub silent_where_none : (d : Device) (found : Option Contender) → IsWinner (contenders_of (d.number, d.waiting)) found
-    → is_some found ≡ false → d.waiting ≡ []
-silent_where_none d found h e = none_waits d.number d.waiting found h e
+pub silent_where_none : (d : Device) (found : Option Contender) → IsWinner (contenders_of (device_sender d.number, d.waiting))
+    found → is_some found ≡ false → d.waiting ≡ []
+silent_where_none d found h e = none_waits (device_sender d.number) d.waiting found h e
 
 pub due_of : (a : DeviceAgenda) (d : Device) → IsAgendaOf a (d ∷ []) → a.awake ≡ false → a.due ≡ next_due d
 unfolding next_due
@@ -130,7 +131,7 @@ module _ (frames : List Waiting) (d : Device) where
 
 pub sent_agenda : (a : DeviceAgenda) (d e : Device) (frames : List Waiting) (found : Option Contender) (waits : Bool)
     → IsAgendaOf a (d ∷ []) → e ≡ record d { waiting = frames }
-    → IsWinner (contenders_of (e.number, e.waiting)) found → waits ≡ is_some found
+    → IsWinner (contenders_of (device_sender e.number, e.waiting)) found → waits ≡ is_some found
     → IsAgendaOf (record a { waits = waits }) (e ∷ [])
 sent_agenda a d e frames found waits plan is wins w =
     rw is

@@ -1,14 +1,10 @@
 -- Agendas in two words.
-use Rattle.std.proofs.Common.{◌≡◌, ℕ, ◌-◌, ◌<◌, ◌≤◌, ◌==◌, ◌^◌, ◌&&◌, ◌||◌, not, Bool, true, false, List, Option, Some, None}
-use Rattle.std.proofs.Common.{refl, sym, ap, ◌∙◌, arith}
-use Rattle.std.specs.Prelude.{if◌then◌else◌, min, nat_le, nat_lt}
+use Rattle.std.proofs.Common.{◌≡◌, ℕ, ◌-◌, ◌<◌, ◌≤◌, ◌==◌, ◌^◌, ◌||◌, Bool, true, false, Some, None}
+use Rattle.std.proofs.Common.{refl, ap, ◌∙◌, arith}
+use Rattle.std.specs.Prelude.{if◌then◌else◌, min}
 use Rattle.std.proofs.lemmas.Bool.Decides.{nat_tests}
-use Rattle.base.specs.Moments.{earlier, has_come}
-use Rattle.co_device.specs.Device.{Device}
-use Rattle.device_agenda.specs.Agenda.{IsAgendaOf}
-use Rattle.device_agenda.specs.Alarms.{agenda_by, due_at, is_now}
-use Rattle.device_agenda.specs.declared.agenda.Agenda.{Agenda}
-use Rattle.device_agenda.specs.declared.alarm.Alarm.{Alarm}
+use Rattle.base.specs.Moments.{earlier}
+use Rattle.device_agenda.specs.Alarms.{due_at, is_now}
 
 -- the greatest moment that an alarm can hold
 abbrev pub top : ℕ

@@ -6,6 +6,7 @@ use Rattle.std.specs.List.{AllByRecursion}
 use Rattle.base.specs.Moments.{has_come}
 use Rattle.image_parts.specs.Asking.{Answer, bind}
 use Rattle.can_frame.specs.Frames.{BaseFrame}
+use Rattle.can_frame.specs.Senders.{device_sender}
 use Rattle.co_device.specs.Device.{Device, moments, after_instant}
 use Rattle.co_device.specs.Receiving.{is_ignored, after_frame}
 use Rattle.device_agenda.specs.Deaf.{IsDeafTo}
@@ -39,7 +40,7 @@ module _ (t : ℕ) (d : Device) (rests : Rests d) (later : AllByRecursion (λ m.
       → at_instant t delivered d ≡ Answer d
   unfolding at_instant hears
   one_quiet None deaf = ap (λ (x : Device). Answer x) alone
-  one_quiet (Some delivered) deaf = told delivered deaf (d.number == delivered.sender)
+  one_quiet (Some delivered) deaf = told delivered deaf (device_sender d.number == delivered.sender)
 
 -- ---- devices
 

@@ -4,6 +4,7 @@ use Rattle.std.specs.Prelude.{if◌then◌else◌}
 use Rattle.std.specs.List.{AllByRecursion}
 use Rattle.image_parts.specs.Asking.{Asking, Answer, bind}
 use Rattle.can_frame.specs.Frames.{BaseFrame}
+use Rattle.can_frame.specs.Senders.{device_sender}
 use Rattle.co_device.specs.Device.{Device, moments, after_instant}
 use Rattle.co_device.specs.Receiving.{after_frame}
 use Rattle.image_parts.specs.Contents.{Content}
@@ -16,9 +17,9 @@ use Rattle.device_agenda.specs.Groups.{includes}
 use Rattle.device_agenda.specs.declared.agenda.Agenda.{Agenda}
 use Rattle.device_agenda.specs.declared.groups.Groups.{Groups}
 
--- each node but its sender hears what is delivered
+-- each device but its sender hears what is delivered
 unfoldable pub hears : ℕ → Delivered → Device → Asking Part Content Device
-hears t delivered d = if d.number == delivered.sender then Answer d else after_frame t delivered.frame d
+hears t delivered d = if device_sender d.number == delivered.sender then Answer d else after_frame t delivered.frame d
 
 -- WHAT A DEVICE DOES IN AN INSTANT: it hears what is delivered, if anything is, and then runs what is due
 unfoldable pub at_instant : ℕ → Option Delivered → Device → Asking Part Content Device

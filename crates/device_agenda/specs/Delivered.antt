@@ -3,7 +3,7 @@ use Rattle.std.specs.Prelude.{◌≡◌, ◌<◌, ℕ, ◌%◌}
 use Rattle.can_frame.specs.Frames.{BaseFrame}
 use Rattle.device_agenda.specs.Groups.{group_of}
 
--- a frame, and the number of the node that sent it
+-- a frame, and who sent it
 pub record Delivered : Type 0 where
   pub sender : ℕ
   pub frame : BaseFrame

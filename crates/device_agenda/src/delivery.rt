@@ -9,10 +9,10 @@ use crate::low_bytes::{LowBytes, low_byte};
 use can_frame::Frame;
 use std::marker::Model;
 
-/// A frame that is delivered on a bus, and the number of the node that sent it.
+/// A frame that is delivered on a bus, and who sent it.
 #[derive(Debug, Drop)]
 pub struct Delivery {
-    pub(crate) sender: u8,
+    pub(crate) sender: u16,
     pub(crate) frame: Frame,
     group: u32,
     low: u8,
@@ -29,8 +29,8 @@ impl Model for Delivery {
 }
 
 impl Delivery {
-    /// A frame of a node.
-    pub fn of(sender: u8, frame: Frame) -> Delivery
+    /// A frame of a sender: `device_sender` or `manager_sender` of a number.
+    pub fn of(sender: u16, frame: Frame) -> Delivery
         ensures { result ≡ record { sender = sender; frame = frame } }
     {
         Delivery {

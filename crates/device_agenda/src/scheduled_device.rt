@@ -4,6 +4,7 @@ ghost use Rattle.std.specs.Prelude.{◌≡◌, ◌↔◌, ◌<◌, ◌≤◌, �
 ghost use Rattle.std.specs.Prelude.{IfOk, IfSome, OnOk, OnErr, IsErr, IsTrue};
 ghost use Rattle.image_parts.specs.Asking.{Answer};
 ghost use Rattle.image_parts.specs.Record.{GoesBy, Lasts};
+ghost use Rattle.can_frame.specs.Senders.{device_sender as device_sender_of};
 ghost use Rattle.can_frame.specs.Winner.{contenders_of, IsWinner};
 ghost use Rattle.co_values.specs.Values.{longest_value};
 ghost use Rattle.co_device.specs.Device.{next_due, after_power, after_instant, after_set, without_power};
@@ -24,7 +25,7 @@ use crate::reach::Reach;
 use crate::schedule::Schedule;
 use crate::stirring::stirring;
 use base::{Octets, Shared, has_come, unshare};
-use can_frame::{Contender, Waiting};
+use can_frame::{Contender, Waiting, device_sender};
 use co_device::Device;
 use co_dict::Dict;
 use device_objects::{Shapes, sync_identifier};
@@ -118,7 +119,7 @@ fn hear<P: Shapes>(
     ensures still { OnOk result (IsTrue device.old.spent → IsTrue device.new.spent) }
     ensures spent { OnErr result (IsTrue device.new.spent) }
 {
-    if device.number() == delivery.sender {
+    if device_sender(device.number()) == delivery.sender {
         return Ok(());
     }
     device.on_frame(t, &delivery.frame, shapes)
@@ -268,7 +269,7 @@ impl ScheduledDevice {
     /// The frame with which it contends for the bus: the first of those waiting that have the least
     /// identifier. Takes constant time.
     pub fn contender(&self) -> Option<Contender>
-        ensures { IsWinner (contenders_of (self.now.number, self.now.waiting)) result }
+        ensures { IsWinner (contenders_of (device_sender_of self.now.number, self.now.waiting)) result }
     {
         if !self.schedule.agenda.waits {
             return None;

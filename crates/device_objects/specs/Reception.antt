@@ -20,11 +20,15 @@ nmt_reception number bytes = if is_addressed number bytes then NmtService (slice
 abbrev pub is_error_control : BaseFrame → Bool
 is_error_control frame = is_between 0x701 0x77F frame.id && (length frame.bytes == 1)
 
+-- an error control message of another node; none of its own number, which the manager sends where it runs in the device
+abbrev pub error_control_reception : ℕ → ℕ → Reception
+error_control_reception number producer = if producer == number then Nothing else ErrorControl producer
+
 -- WHAT A FRAME IS TO A DEVICE WITH POWER, of this number and with this identifier of SYNC, by the first that fits
 unfoldable pub reception_with_power : ℕ → ℕ → BaseFrame → Reception
 reception_with_power number sync frame =
     if frame.id == nmt_id then nmt_reception number frame.bytes
     else if frame.id == sync then Sync
     else if (frame.id == sdo_request_id number) && (length frame.bytes == 8) then SdoRequest
-    else if is_error_control frame then ErrorControl (frame.id - error_control_id 0)
+    else if is_error_control frame then error_control_reception number (frame.id - error_control_id 0)
     else Pdo

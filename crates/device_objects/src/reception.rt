@@ -2,7 +2,7 @@
 
 ghost use Rattle.std.specs.Prelude.{◌≡◌, ◌-◌, slice_index_or, Some, None, if◌then◌else◌};
 ghost use Rattle.device_objects.specs.Reception.{is_addressed as is_to_node, is_error_control, nmt_reception};
-ghost use Rattle.device_objects.specs.Reception.{reception_with_power};
+ghost use Rattle.device_objects.specs.Reception.{error_control_reception, reception_with_power};
 
 use can_frame::{Frame, identifiers};
 
@@ -17,7 +17,7 @@ pub enum Reception {
     Sync,
     /// A request to its SDO server.
     SdoRequest,
-    /// The boot-up message or a heartbeat of this node.
+    /// The boot-up message or a heartbeat of this node, another one.
     ErrorControl(u8),
     /// The frame of a PDO, if it is anything.
     Pdo,
@@ -61,6 +61,18 @@ impl Reception {
         }
     }
 
+    /// What an error control message of a node is to a device: nothing, where it has the device's own number, since the
+    /// manager that runs in it sends it.
+    fn of_error_control(number: u8, producer: u8) -> Reception
+        ensures { result ≡ error_control_reception number producer }
+    {
+        if producer == number {
+            Reception::Nothing
+        } else {
+            Reception::ErrorControl(producer)
+        }
+    }
+
     /// What a frame is to a device with power, of this number and with this identifier of SYNC. Takes constant
     /// time.
     #[tactic(auto, unfolding(crate::specs::Reception::reception_with_power))]
@@ -78,7 +90,7 @@ impl Reception {
             return Reception::SdoRequest;
         }
         match producer_of(frame) {
-            Some(producer) => Reception::ErrorControl(producer),
+            Some(producer) => Reception::of_error_control(number, producer),
             None => Reception::Pdo,
         }
     }

@@ -16,6 +16,7 @@ use Rattle.diag_lines.specs.declared.code.Code.TheVariants.{NoDummy, BadIdentifi
 use Rattle.diag_lines.specs.declared.code.Code.TheVariants.{SharedIdentifier, NotModelled, RemoteType, NoSync}
 use Rattle.diag_lines.specs.declared.code.Code.TheVariants.{UnfitConsumer, SkippedLine, OtherCounter, UnreachedStart}
 use Rattle.diag_lines.specs.declared.code.Code.TheVariants.{UnplannedTpdo, UnplannedRpdo, BesideLimits, UselessReceive}
+use Rattle.diag_lines.specs.declared.code.Code.TheVariants.{IdleEvent, OtherHeartbeat}
 use Rattle.diag_lines.specs.declared.subject.Subject.{Subject}
 use Rattle.diag_lines.specs.declared.subject.Subject.TheVariants.{Cob, Default, Eds, Event, Limit, Message, Node, Param}
 use Rattle.diag_lines.specs.declared.subject.Subject.TheVariants.{Receive, Rpdo, Tpdo}
@@ -67,14 +68,14 @@ then_both Less p e = cc
 then_both Equal p e = (refl, e)
 then_both Greater p e = cc
 
--- the codes by their numbers; 25 and 27 are those of none
+-- the codes by their numbers
 all_codes : List Code
 all_codes =
     NoEntry ∷ Unreadable ∷ OutsideLimits ∷ NotWritable ∷ NoObjects ∷ TpdoTaken ∷ TooManyBits ∷ NotMappable ∷ Mismatched
     ∷ NoRpdo
     ∷ NoDummy ∷ BadIdentifier ∷ NoIdentifier ∷ ReservedType ∷ SharedIdentifier ∷ NotModelled ∷ RemoteType ∷ NoSync
-    ∷ UnfitConsumer ∷ SkippedLine ∷ OtherCounter ∷ UnreachedStart ∷ UnplannedTpdo ∷ UnplannedRpdo ∷ NoEntry
-    ∷ BesideLimits ∷ NoEntry ∷ UselessReceive ∷ []
+    ∷ UnfitConsumer ∷ SkippedLine ∷ OtherCounter ∷ UnreachedStart ∷ UnplannedTpdo ∷ UnplannedRpdo ∷ IdleEvent
+    ∷ BesideLimits ∷ OtherHeartbeat ∷ UselessReceive ∷ []
 
 its_code : (a : Code) → get_or all_codes (number_of a - 1) NoEntry ≡ a
 unfolding number_of all_codes

@@ -1,4 +1,4 @@
--- The codes of diagnostics and their numbers (this profile's own); those of 25 and 27 are given to none.
+-- The codes of diagnostics and their numbers (this profile's own).
 use Rattle.std.specs.Prelude.{ℕ, ◌==◌, ◌||◌, nat_le, Bool}
 use Rattle.diag_lines.specs.declared.code.Code.{Code}
 use Rattle.diag_lines.specs.declared.code.Code.TheVariants.{NoEntry, Unreadable, OutsideLimits, NotWritable, NoObjects}
@@ -7,6 +7,7 @@ use Rattle.diag_lines.specs.declared.code.Code.TheVariants.{NoDummy, BadIdentifi
 use Rattle.diag_lines.specs.declared.code.Code.TheVariants.{SharedIdentifier, NotModelled, RemoteType, NoSync}
 use Rattle.diag_lines.specs.declared.code.Code.TheVariants.{UnfitConsumer, SkippedLine, OtherCounter, UnreachedStart}
 use Rattle.diag_lines.specs.declared.code.Code.TheVariants.{UnplannedTpdo, UnplannedRpdo, BesideLimits, UselessReceive}
+use Rattle.diag_lines.specs.declared.code.Code.TheVariants.{IdleEvent, OtherHeartbeat}
 
 unfoldable pub number_of : Code → ℕ
 number_of NoEntry = 1
@@ -33,7 +34,9 @@ number_of OtherCounter = 21
 number_of UnreachedStart = 22
 number_of UnplannedTpdo = 23
 number_of UnplannedRpdo = 24
+number_of IdleEvent = 25
 number_of BesideLimits = 26
+number_of OtherHeartbeat = 27
 number_of UselessReceive = 28
 
 -- which are errors: those of up to 16, and 26

@@ -63,8 +63,13 @@ pub enum Code {
     UnplannedTpdo,
     /// 24: an RPDO that no message uses is on by default and can't be switched off, and takes a message.
     UnplannedRpdo,
+    /// 25: an event does nothing: it switches the power of the device that the manager runs in, or sets its producer
+    /// heartbeat time (1017h).
+    IdleEvent,
     /// 26: a write that the plan gives a node is below its entry's low limit or above the high one.
     BesideLimits,
+    /// 27: the producer heartbeat time (1017h) of the device that the manager runs in isn't the manager's.
+    OtherHeartbeat,
     /// 28: a receive is of a node that doesn't take its message, or of an event time that its RPDO can't have.
     UselessReceive,
 }
@@ -100,7 +105,9 @@ impl Code {
             Code::UnreachedStart => 22,
             Code::UnplannedTpdo => 23,
             Code::UnplannedRpdo => 24,
+            Code::IdleEvent => 25,
             Code::BesideLimits => 26,
+            Code::OtherHeartbeat => 27,
             Code::UselessReceive => 28,
         }
     }

@@ -1,5 +1,5 @@
 -- What is kept of a node: of one that sends no message what there is by itself, and of each what its values say.
-use Rattle.std.proofs.Common.{◌≡◌, ℕ, Bool, true, false, List, [], ◌∷◌, ◌++◌, sym, ap, ◌∙◌}
+use Rattle.std.proofs.Common.{◌≡◌, ℕ, Bool, true, false, List, [], ◌∷◌, ◌++◌, Option, sym, ap, ◌∙◌}
 use Rattle.std.specs.Prelude.{filter, filter_map, option_map}
 use Rattle.std.specs.List.{cons_option}
 use Rattle.co_dict.specs.Values.{Values}
@@ -37,7 +37,7 @@ module _ (plan : List PlannedMessage) (e : ℕ × Member) (none : sends plan e.0
         ∙ ap (λ (n : Numbers). filter_map (identifier_at n) (pairs_of e.1.sheet.sections)) unsent);
     consumers = consumers ∙ ap (λ (xs : List HeartbeatConsumer). old.consumers.items ++ xs) (is.consumers
         ∙ ap (λ (n : Numbers). filter_map (consumer_of n e.0) (pairs_of e.1.sheet.sections)) unsent);
-    times = times ∙ ap (λ (xs : List (ℕ × ℕ)). old.times.items ++ xs) (is.times
+    times = times ∙ ap (λ (xs : List (ℕ × Option ℕ)). old.times.items ++ xs) (is.times
         ∙ ap (λ (n : Numbers). (e.0, heartbeat_time n) ∷ []) unsent);
     counters = counters ∙ ap (λ (xs : List (ℕ × ℕ)). old.counters.items ++ xs) (is.counters
         ∙ ap (λ (n : Numbers). cons_option (option_map (λ c. (e.0, c)) (counter_at n)) []) unsent);

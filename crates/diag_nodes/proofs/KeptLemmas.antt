@@ -2,7 +2,6 @@
 use Rattle.std.proofs.Common.{◌≡◌, ◌==◌, ◌&&◌, ◌||◌, ℕ, Bool, true, false, List, [], ◌∷◌, Option, None, refl, ap, ◌∙◌}
 use Rattle.std.specs.Prelude.{filter_map, if◌then◌else◌, nat_le, option_map, option_and_then}
 use Rattle.std.specs.List.{cons_option, flat_map}
-use Rattle.std.specs.Option.{unwrap_or}
 use Rattle.std.proofs.lemmas.Bool.{eqb-true}
 use Rattle.base.specs.Ranges.{is_between}
 use Rattle.co_values.specs.declared.form.Width.{Width}
@@ -16,8 +15,8 @@ use Rattle.project_plan.specs.Values.{Numbers, number_after, values_after}
 use Rattle.project_plan.specs.Wanted.{is_tpdo_cob_id, is_wanted}
 use Rattle.project_plan.proofs.VendorWantedLemmas.{number_wanted_by}
 use Rattle.diag_nodes.specs.declared.consumer.HeartbeatConsumer.{HeartbeatConsumer}
-use Rattle.diag_nodes.specs.Found.{consumers, counters, identifiers}
-use Rattle.diag_nodes.specs.Kept.{numbers_by, times}
+use Rattle.diag_nodes.specs.Found.{consumers, counters, identifiers, times}
+use Rattle.diag_nodes.specs.Kept.{numbers_by}
 use Rattle.diag_nodes.specs.Rules.{consumer_of, consumers_in, counters_in, identifier_at, identifier_if_on}
 use Rattle.diag_nodes.specs.Rules.{identifiers_in}
 use Rattle.diag_nodes.specs.Rules.{numbers_of, times_in, with_value}
@@ -78,8 +77,9 @@ module _ (p : Content) where
         (numbers_by (is_three p.version) (plan_of_project p) e) (numbers_of p e) (agree e) e.0 place i) (pairs_of e.1.sheet.sections)) (members p))
 
     pub times_kept : flat_map (times_in (numbers_by (is_three p.version) plan)) (members p) ≡ times p
+    unfolding times
     times_kept = by_plan times_in plan is
-        ∙ (λ i. flat_map (λ (e : ℕ × Member). (e.0, unwrap_or (agree e Bits16 (0x1017, 0) refl i) 0) ∷ []) (members p))
+        ∙ (λ i. flat_map (λ (e : ℕ × Member). (e.0, agree e Bits16 (0x1017, 0) refl i) ∷ []) (members p))
 
     pub counters_kept : flat_map (counters_in (numbers_by (is_three p.version) plan)) (members p) ≡ counters p
     unfolding counters

@@ -17,7 +17,7 @@ use Rattle.diag_lines.specs.declared.subject.Subject.{Subject}
 use Rattle.diag_lines.specs.declared.diag.Diag.{Diag}
 use Rattle.diag_nodes.specs.Codes.{parameter_code}
 use Rattle.diag_nodes.specs.declared.consumer.HeartbeatConsumer.{HeartbeatConsumer}
-use Rattle.diag_nodes.specs.Rules.{consumers_in, counters_in, identifiers_in, numbers_of}
+use Rattle.diag_nodes.specs.Rules.{consumers_in, counters_in, identifiers_in, numbers_of, times_in}
 use Rattle.diag_lines.specs.declared.subject.Subject.TheVariants as of
 
 abbrev pub diagnostic : Code → Subject → Diag
@@ -43,6 +43,10 @@ unreadable_defaults e = filter_map (unreadable_default e) (pairs_of e.1.sheet.se
 -- the heartbeat consumers of all nodes
 unfoldable pub consumers : Content → List HeartbeatConsumer
 consumers p = flat_map (consumers_in (numbers_of p)) (members p)
+
+-- the producer heartbeat times of all nodes, each with its node
+unfoldable pub times : Content → List (ℕ × Option ℕ)
+times p = flat_map (times_in (numbers_of p)) (members p)
 
 -- the identifiers of the TPDOs of all nodes
 unfoldable pub identifiers : Content → List ℕ

@@ -3,7 +3,6 @@
 use Rattle.std.specs.Prelude.{ℕ, ◌==◌, ◌&&◌, nat_le, if◌then◌else◌, List, [], ◌∷◌, Option, Some, None, option_map}
 use Rattle.std.specs.Prelude.{option_and_then, filter_map}
 use Rattle.std.specs.List.{cons_option}
-use Rattle.std.specs.Option.{unwrap_or}
 use Rattle.co_values.specs.declared.form.Width.TheVariants.{Bits8, Bits16, Bits32}
 use Rattle.cia301.specs.CobIds.{identifier_in, is_of_base_frames, is_valid}
 use Rattle.eds_device.specs.Places.{pairs_of}
@@ -28,9 +27,9 @@ identifier_at numbers place =
 abbrev pub consumer_at : Numbers → ℕ × ℕ → Option ℕ
 consumer_at numbers place = if place.0 == 0x1016 && nat_le 1 place.1 then numbers Bits32 place else None
 
--- THE PRODUCER HEARTBEAT TIME in milliseconds: 1017h, and 0 where there is none
-abbrev pub heartbeat_time : Numbers → ℕ
-heartbeat_time numbers = unwrap_or (numbers Bits16 (0x1017, 0)) 0
+-- THE PRODUCER HEARTBEAT TIME in milliseconds: 1017h, where it is there
+abbrev pub heartbeat_time : Numbers → Option ℕ
+heartbeat_time numbers = numbers Bits16 (0x1017, 0)
 
 -- THE SYNCHRONOUS COUNTER OVERFLOW VALUE: 1019h
 abbrev pub counter_at : Numbers → Option ℕ
@@ -51,7 +50,7 @@ consumer_of numbers node place = option_map (with_value node place.1) (consumer_
 abbrev pub consumers_in : (ℕ × Member → Numbers) → ℕ × Member → List HeartbeatConsumer
 consumers_in numbers e = filter_map (consumer_of (numbers e) e.0) (pairs_of e.1.sheet.sections)
 
-abbrev pub times_in : (ℕ × Member → Numbers) → ℕ × Member → List (ℕ × ℕ)
+abbrev pub times_in : (ℕ × Member → Numbers) → ℕ × Member → List (ℕ × Option ℕ)
 times_in numbers e = (e.0, heartbeat_time (numbers e)) ∷ []
 
 abbrev pub counters_in : (ℕ × Member → Numbers) → ℕ × Member → List (ℕ × ℕ)

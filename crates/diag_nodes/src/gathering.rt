@@ -7,8 +7,8 @@ ghost use Rattle.project_plan.specs.Wanted.{sends};
 ghost use Rattle.diag_nodes.specs.Alone.{Keeps};
 ghost use Rattle.project_plan.specs.Library.{IsRead};
 ghost use Rattle.diag_nodes.specs.Devices.{AreAllRead, of_node};
-ghost use Rattle.diag_nodes.specs.Found.{consumers, counters, identifiers, unreadable_defaults};
-ghost use Rattle.diag_nodes.specs.Kept.{numbers_by, times};
+ghost use Rattle.diag_nodes.specs.Found.{consumers, counters, identifiers, times, unreadable_defaults};
+ghost use Rattle.diag_nodes.specs.Kept.{numbers_by};
 ghost use Rattle.diag_nodes.specs.Rules.{consumers_in, counters_in, identifiers_in, times_in};
 ghost use Rattle.diag_nodes.specs.Sheets.{faults_of_node};
 

@@ -19,8 +19,8 @@ pub struct Kept {
     pub identifiers: Vec<Identifier>,
     /// The heartbeat consumers.
     pub consumers: Vec<HeartbeatConsumer>,
-    /// The heartbeat time of each node in milliseconds, 0 where it sends none.
-    pub times: Vec<(u8, u16)>,
+    /// The producer heartbeat time of each node in milliseconds, where it has that entry.
+    pub times: Vec<(u8, Option<u16>)>,
     /// The synchronous counter overflow value of each node that has one.
     pub counters: Vec<(u8, u8)>,
 }
@@ -114,7 +114,7 @@ pub(crate) fn keep_values(
 {
     keep_identifiers(&mut kept.identifiers, device, values)?;
     keep_consumers(&mut kept.consumers, id, device, values)?;
-    let time = unsigned_16(device, values, 0x1017, 0).unwrap_or(0);
+    let time = unsigned_16(device, values, 0x1017, 0);
     kept.times.push((id, time))?;
     if let Some(counter) = unsigned_8(device, values, 0x1019, 0) {
         kept.counters.push((id, counter))?;

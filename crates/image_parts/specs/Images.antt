@@ -12,24 +12,23 @@ use Rattle.co_scenario.specs.declared.step.Step.TheVariants.{Set, Power, Nmt}
 use Rattle.co_scenario.specs.declared.timed_step.TimedStep.{TimedStep}
 use Rattle.image_parts.specs.Contents.{Image, roster_of, shape_of, steps_of, values_of, write_of}
 use Rattle.image_parts.specs.declared.part.Part.TheVariants as part
+use Rattle.image_parts.specs.Rosters.{has_controller}
 use Rattle.image_parts.specs.declared.roster.Roster.{Roster}
+use Rattle.image_parts.specs.declared.start_mode.StartMode.TheVariants.{ConfiguredNodes}
 use Rattle.cia301.specs.Limits.{bit_rates, IsNodeNumber}
 use Rattle.cia301.specs.PdoObjects.{is_of_pdos}
 use Rattle.concise_dcf.specs.Writes.{IsSized}
 
 -- ---- every image
 
--- a node number beside the manager's
-abbrev pub IsNode : ℕ → ℕ → Type 0
-IsNode manager node = (1 ≤ node) × (node ≤ 127) × (node ≢ manager)
-
 -- numbers differ from one another
 abbrev pub AllDiffer : List ℕ → Type 0
 AllDiffer [] = Unit {0}
 AllDiffer (a ∷ rest) = AllByRecursion (λ b. a ≢ b) rest × AllDiffer rest
 
--- a roster has a bit rate and numbers of the manager within their limits, node numbers that differ from one another
--- and from the manager's, and mandatory nodes that are among them
+-- a roster has a bit rate and numbers of the manager within their limits, node numbers that differ from one another, of
+-- which one may be the manager's where configured nodes are started one by one alone, and mandatory nodes that are among
+-- them
 pub record IsRoster (roster : Roster) : Type 0 where
   pub bit_rate : Contains bit_rates roster.bit_rate
   pub manager : IsNodeNumber roster.manager
@@ -39,7 +38,8 @@ pub record IsRoster (roster : Roster) : Type 0 where
   pub first_day : roster.first_day < 2 ^ 16
   pub heartbeat : roster.heartbeat_ms < 2 ^ 16
   pub timeout : (1 ≤ roster.timeout_ms) × (roster.timeout_ms < 2 ^ 16)
-  pub nodes : AllByRecursion (IsNode roster.manager) roster.nodes
+  pub nodes : AllByRecursion IsNodeNumber roster.nodes
+  pub controller : has_controller roster ≡ true → roster.start_mode ≡ ConfiguredNodes
   pub differ : AllDiffer roster.nodes
   pub mandatory : AllByRecursion (Contains roster.nodes) roster.mandatory
 

@@ -2,8 +2,10 @@ pub mod Shared
 pub mod Contents
 pub mod ContentView
 pub mod Images
+pub mod Rosters
 pub mod Asking
 pub mod Alike
 pub mod Agenda
 pub mod Record
 pub mod Each
+pub mod Configured

@@ -1,6 +1,7 @@
 //! The network as a whole.
 
 ghost use Rattle.std.specs.Prelude.{◌≡◌, ◌↔◌, IsTrue};
+ghost use Rattle.image_parts.specs.Rosters.{has_controller};
 
 use crate::start_mode::StartMode;
 use base::Octets;
@@ -33,11 +34,22 @@ pub struct Roster {
     /// The numbers of the mandatory nodes: those that have to be configured before the network is started as
     /// a whole. There is none where each node is started by itself.
     pub mandatory: Octets,
-    /// The numbers of the nodes beside the manager, each once: the devices of a bus stand in their order.
+    /// The numbers of the nodes, each once: the devices of a bus stand in their order. One may be the manager's: the
+    /// controller, the device that the manager runs in.
     pub nodes: Octets,
 }
 
 impl Roster {
+    /// Whether there is a controller. Takes time by the number of nodes, and no memory.
+    pub fn has_controller(&self) -> bool
+        ensures { result ≡ has_controller self.now }
+    {
+        self.nodes
+            .as_slice()
+            .iter()
+            .any(|node| *node == self.manager)
+    }
+
     /// Whether the other roster is the same. Takes time by the number of nodes, and no memory.
     pub fn same(&self, other: &Roster) -> bool
         ensures { IsTrue result ↔ (self.now ≡ other.now) }

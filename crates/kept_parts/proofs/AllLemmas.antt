@@ -3,6 +3,7 @@ use Rattle.std.proofs.Common.{◌≡◌, ◌∙◌, ℕ, ◌+◌, Bool, true, fa
 use Rattle.std.proofs.Common.{None}
 use Rattle.std.proofs.Common.{append_assoc, refl, sym, ap, subst, arith, suc}
 use Rattle.std.specs.Cmp.{tied_itself}
+use Rattle.std.specs.Prelude.{if◌then◌else◌}
 use Rattle.std.specs.FinMap.{entries, find, get-entries}
 use Rattle.std.specs.List.{list_any}
 use Rattle.std.specs.Option.{option_map_or}
@@ -14,7 +15,7 @@ use Rattle.kept_values.specs.Stale.{AreBrought}
 use Rattle.kept_values.specs.Work.{Work}
 use Rattle.kept_values.proofs.Brought.{both, none, option_map_back}
 use Rattle.co_project.specs.declared.node.Node.{Node}
-use Rattle.co_project.specs.Project.{Content as Project}
+use Rattle.co_project.specs.Project.{is_controller, Content as Project}
 use Rattle.co_project.specs.Tables.{node_at}
 use Rattle.part_shelves.specs.SheetText.{sheet_given}
 use Rattle.part_shelves.specs.Slots.{sheet_kept}
@@ -23,7 +24,7 @@ use Rattle.project_parts.specs.declared.part.Part.{Part}
 use Rattle.project_parts.specs.declared.part.Part.TheVariants as part
 use Rattle.kept_parts.specs.Kept.{kept_inputs, AreHeld, IsOf}
 use Rattle.project_parts.specs.Given.{inputs_of, same_part, OfDevice}
-use Rattle.project_parts.specs.Reached.{for_node, for_nodes, for_plan, of_node, of_nodes, own_device, parts_for}
+use Rattle.project_parts.specs.Reached.{for_node, for_nodes, for_own, for_plan, for_writes, of_node, of_nodes, own_device, parts_for}
 use Rattle.project_parts.specs.Reached.{reached_by_trace, windows_below}
 use Rattle.network_image.specs.Devices.{HoldsDevices}
 use Rattle.kept_parts.proofs.CurrentLemmas.{itself}
@@ -123,12 +124,30 @@ module _ (p : Project) where
   unfolding AreHeld
   still_held ps qs a b m n x are = still_now same_part (inputs_of p) ps qs (kept_inputs a) (kept_inputs b) m n x are
 
-  own_without : (n : ℕ) (q : Part) (a b : KeptParts) (k m : Work) → AreHeld p (for_plan p) a
-      → Brings (own_device p n ++ q ∷ []) a b k m → Brings (q ∷ []) a b k m
+  -- what is reached before what a node has by its device is held, where the plan and its writes are
+  before_held : (n : ℕ) (a : KeptParts) → AreHeld p (for_plan p) a → AreHeld p (for_writes p n) a
+      → AreHeld p (for_own p n ++ own_device p n) a
   unfolding AreHeld
-  own_without n q a b k m are x =
-      brought_without same_part (inputs_of p) itself (own_device p n) (q ∷ []) (kept_inputs a) (kept_inputs b) k m
-      (λ r there. are r (own_in_plan (same_part r) n there)) x
+  before_held n a plan writes r there =
+      by (list_any (same_part r) (for_own p n)) refl (sym (list_any-append (same_part r) (for_own p n) (own_device p n)) ∙ there)
+    where
+      in_writes : (t : Bool)
+          → (let none : List Part = [] in list_any (same_part r) (if t then for_writes p n else none) ≡ true)
+          → list_any (same_part r) (for_writes p n) ≡ true
+      in_writes true h = h
+      in_writes false h = cc
+
+      by : (t : Bool) → list_any (same_part r) (for_own p n) ≡ t → (t || list_any (same_part r) (own_device p n)) ≡ true
+          → kept_inputs a r ≡ inputs_of p r
+      by true is h = writes r (in_writes (is_controller p n) is)
+      by false is h = plan r (own_in_plan (same_part r) n h)
+
+  own_without : (n : ℕ) (q : Part) (a b : KeptParts) (k m : Work) → AreHeld p (for_plan p) a → AreHeld p (for_writes p n) a
+      → Brings (for_own p n ++ own_device p n ++ q ∷ []) a b k m → Brings (q ∷ []) a b k m
+  unfolding AreHeld
+  own_without n q a b k m plan writes x =
+      brought_without same_part (inputs_of p) itself (for_own p n ++ own_device p n) (q ∷ []) (kept_inputs a) (kept_inputs b) k m
+      (before_held n a plan writes) x
 
   writes_without : (n : ℕ) (a b : KeptParts) (k m : Work) → AreHeld p (for_plan p) a
       → Brings (parts_for p (part.Writes n)) a b k m → Brings (part.Writes n ∷ []) a b k m
@@ -139,18 +158,19 @@ module _ (p : Project) where
       (λ r there. are r (both_in_plan (same_part r) n there)) x
 
   module _ (n : ℕ) (a b c : KeptParts) (k l m : Work) (plan : AreHeld p (for_plan p) a)
-      (one : Brings (parts_for p (part.Node n)) a b k l)
-      (two : Brings (parts_for p (part.Writes n)) b c l m) where
+      (one : Brings (parts_for p (part.Writes n)) a b k l)
+      (two : Brings (parts_for p (part.Node n)) b c l m) where
     plan_b : AreHeld p (for_plan p) b
-    plan_b = still_held (parts_for p (part.Node n)) (for_plan p) a b k l one plan
+    plan_b = still_held (parts_for p (part.Writes n)) (for_plan p) a b k l one plan
 
     pub plan_still : AreHeld p (for_plan p) c
-    plan_still = still_held (parts_for p (part.Writes n)) (for_plan p) b c l m two plan_b
+    plan_still = still_held (parts_for p (part.Node n)) (for_plan p) b c l m two plan_b
 
     pub node_brought : Brings (for_node n) a c k m
     node_brought =
-        both same_part (inputs_of p) (part.Node n ∷ []) (part.Writes n ∷ []) (kept_inputs a) (kept_inputs b) (kept_inputs c) k l m
-        (own_without n (part.Node n) a b k l plan one) (writes_without n b c l m plan_b two)
+        both same_part (inputs_of p) (part.Writes n ∷ []) (part.Node n ∷ []) (kept_inputs a) (kept_inputs b) (kept_inputs c) k l m
+        (writes_without n a b k l plan one)
+        (own_without n (part.Node n) b c l m plan_b (held_brought (for_writes p n) a b k l one) two)
 
 -- ---- node after node
 

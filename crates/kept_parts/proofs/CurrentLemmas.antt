@@ -14,7 +14,7 @@ use Rattle.kept_values.specs.Shelved.{is_fresh}
 use Rattle.kept_values.specs.Stale.{AreBrought}
 use Rattle.kept_values.specs.Work.{Work}
 use Rattle.project_parts.specs.Given.{inputs_of, same_part}
-use Rattle.project_parts.specs.Reached.{for_plan, for_writes, of_nodes, own_device, parts_for}
+use Rattle.project_parts.specs.Reached.{for_own, for_plan, for_writes, of_nodes, own_device, parts_for}
 use Rattle.kept_parts.specs.Kept.{is_unmarked, kept_inputs, IsOf}
 use Rattle.part_shelves.specs.Slots.{fresh_at, Slots}
 use Rattle.part_shelves.specs.declared.device_slot.DeviceSlot.{DeviceSlot}
@@ -56,7 +56,7 @@ module _ (p : Project) where
   reaches (part.Concise n) = last (for_writes p n) (part.Concise n)
   reaches (part.Dcf n) = last (for_writes p n) (part.Dcf n)
   reaches part.Roster = refl
-  reaches (part.Node n) = last (own_device p n) (part.Node n)
+  reaches (part.Node n) = last (for_own p n ++ own_device p n) (part.Node n)
   reaches (part.Window i) = last (of_nodes p) (part.Window i)
   reaches part.Diagnostics = last (for_plan p) part.Diagnostics
 

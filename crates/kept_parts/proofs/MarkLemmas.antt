@@ -1,6 +1,7 @@
 -- Marks.
 use Rattle.std.proofs.Common.{◌≡◌, ◌∙◌, ℕ, Bool, true, false, ◌&&◌, ◌||◌, ◌==◌, not, cond, List, [], ◌∷◌, map, Option, Some, None}
 use Rattle.std.proofs.Common.{option_map, refl, sym, ap, subst, Ok}
+use Rattle.std.specs.Prelude.{if◌then◌else◌}
 use Rattle.std.specs.FinMap.{entries, get, get-insert, insert}
 use Rattle.std.specs.Option.{option_map_or}
 use Rattle.std.specs.Ordering.{eq_by_cmp}
@@ -12,7 +13,7 @@ use Rattle.project_edits.specs.declared.edit.Edit.{Edit}
 use Rattle.project_edits.specs.declared.edit.Edit.TheVariants as edit
 use Rattle.project_messages.specs.Messages.{name_cmp}
 use Rattle.co_project.specs.declared.node.Node.{Node}
-use Rattle.co_project.specs.Project.{accept, Content as Project}
+use Rattle.co_project.specs.Project.{accept, controller_of, has_controller, is_controller, Content as Project}
 use Rattle.part_shelves.specs.SheetText.{SheetText}
 use Rattle.part_shelves.specs.Slots.{fresh_at, marked, sheet_kept, with_fresh, Slots}
 use Rattle.kept_parts.specs.Kept.{is_unmarked, kept_inputs, HaveNoMark, IsOf}
@@ -24,11 +25,13 @@ use Rattle.project_parts.specs.declared.device_at.DeviceAt.{DeviceAt}
 use Rattle.project_parts.specs.Given.{OfDevice, OfNode, OfRoster, OfWindow}
 use Rattle.project_parts.specs.declared.roster_from.RosterFrom.{RosterFrom}
 use Rattle.project_parts.specs.Reached.{of_node, of_nodes}
-use Rattle.project_parts.specs.Touched.{is_of_network, is_of_text, is_planned, is_touched, reads_version}
+use Rattle.project_parts.specs.Touched.{holds_writes, is_held_of, is_of_manager, is_of_network, is_of_node, is_of_text}
+use Rattle.project_parts.specs.Touched.{is_planned, is_roster, is_touched, moves_controller, reads_version}
 use Rattle.part_shelves.specs.declared.device_slot.DeviceSlot.{DeviceSlot}
 use Rattle.project_parts.specs.declared.part.Part.{Part}
 use Rattle.project_parts.specs.declared.part.Part.TheVariants as part
 use Rattle.kept_parts.specs.declared.kept_parts.KeptParts.{KeptParts}
+use Rattle.project_parts.proofs.ControllerLemmas.{no_test}
 use Rattle.project_parts.proofs.EditLemmas.{taken_as}
 use Rattle.project_parts.proofs.FileLemmas.{nodes_left}
 use Rattle.project_parts.proofs.FrameLemmas.{frame}
@@ -280,6 +283,14 @@ both_marks a b old middle new x y = record {
   others = λ q other u. let apart = neither (a q) (b q) other in y.others q apart.1 (x.others q apart.0 u);
 }
 
+-- the same marks, said otherwise
+pub same_marks : (a b : Part → Bool) (old new : KeptParts) → ((q : Part) → a q ≡ b q) → Marks a old new → Marks b old new
+same_marks a b old new same m = record {
+  kept = m.kept;
+  unmarked = λ q u. let was = m.unmarked q u in (was.0, sym (same q) ∙ was.1);
+  others = λ q other u. m.others q (same q ∙ other) u;
+}
+
 -- nothing is marked
 pub no_marks : (h : KeptParts) → Marks (λ q. false) h h
 no_marks h = record { kept = λ q. refl; unmarked = λ q u. (u, refl); others = λ q other u. u }
@@ -293,6 +304,71 @@ known_marks asked old new known m = record {
   others = λ q other u. fresh_known new known q ∙ m.others q other u;
 }
 
+-- ---- the node that the manager runs in
+
+nothing_else : (a : Bool) → a ≡ a || false
+nothing_else true = refl
+nothing_else false = refl
+
+module _ (p : Project) where
+  -- what it has by its device
+  held_by_own : (id : ℕ) → Some id ≡ controller_of p → (q : Part) → is_held_of id q ≡ holds_writes p q
+  held_by_own id is (part.Node n) = by (has_controller p) is
+    where
+      by : (t : Bool) → (let none : Option ℕ = None in Some id ≡ (if t then Some p.manager.id else none))
+          → (n == id) ≡ t && (n == p.manager.id)
+      by true is = let same : id ≡ p.manager.id = cc in ap (λ k. n == k) same
+      by false is = cc
+  held_by_own id is others = refl
+
+  none_held : None ≡ controller_of p → (q : Part) → false ≡ holds_writes p q
+  none_held is (part.Node n) = by (has_controller p) is
+    where
+      by : (t : Bool) → (let none : Option ℕ = None in none ≡ (if t then Some p.manager.id else none))
+          → false ≡ t && (n == p.manager.id)
+      by true is = cc
+      by false is = refl
+  none_held is others = refl
+
+  pub own_marks : (old new : KeptParts) (id : ℕ) → Some id ≡ controller_of p → Marks (is_held_of id) old new
+      → Marks (holds_writes p) old new
+  own_marks old new id is m = same_marks (is_held_of id) (holds_writes p) old new (held_by_own id is) m
+
+  pub no_own_marks : (k : KeptParts) → None ≡ controller_of p → Marks (holds_writes p) k k
+  no_own_marks k is = same_marks (λ q. false) (holds_writes p) k k (none_held is) (no_marks k)
+
+  -- parameters of a node that the manager runs in, or doesn't
+  pub parameter_marks : (old middle new : KeptParts) (id : ℕ) → is_controller p id ≡ true → Marks (is_of_node id) old middle
+      → Marks (is_held_of id) middle new → Marks (λ q. is_of_node id q || is_controller p id && is_held_of id q) old new
+  parameter_marks old middle new id own x y =
+      same_marks (λ q. is_of_node id q || is_held_of id q) (λ q. is_of_node id q || is_controller p id && is_held_of id q) old new
+      (λ q. ap (λ t. is_of_node id q || t && is_held_of id q) (sym own))
+      (both_marks (is_of_node id) (is_held_of id) old middle new x y)
+
+  pub file_marks : (old new : KeptParts) (id : ℕ) → is_controller p id ≡ false → Marks (is_of_node id) old new
+      → Marks (λ q. is_of_node id q || is_controller p id && is_held_of id q) old new
+  file_marks old new id other m =
+      same_marks (is_of_node id) (λ q. is_of_node id q || is_controller p id && is_held_of id q) old new
+      (λ q. nothing_else (is_of_node id q) ∙ ap (λ t. is_of_node id q || t && is_held_of id q) (sym other)) m
+
+  -- the number of the manager
+  pub moved_marks : (old first second new : KeptParts) (id before : ℕ) → moves_controller p id ≡ true → before ≡ p.manager.id
+      → Marks is_roster old first → Marks (is_of_network id) first second → Marks (is_held_of before) second new
+      → Marks (is_of_manager p id) old new
+  moved_marks old first second new id before moves is x y z =
+      let both : Part → Bool = λ q. is_of_network id q || is_held_of before q in
+      same_marks (λ q. is_roster q || both q) (is_of_manager p id) old new
+      (λ q. ap (λ k. is_roster q || (is_of_network id q || is_held_of k q)) is
+      ∙ ap (λ t. is_roster q || t && (is_of_network id q || is_held_of p.manager.id q)) (sym moves))
+      (both_marks is_roster both old first new x (both_marks (is_of_network id) (is_held_of before) first second new y z))
+
+  pub unmoved_marks : (old new : KeptParts) (id : ℕ) → moves_controller p id ≡ false → Marks is_roster old new
+      → Marks (is_of_manager p id) old new
+  unmoved_marks old new id stays m =
+      same_marks is_roster (is_of_manager p id) old new
+      (λ q. nothing_else (is_roster q)
+      ∙ ap (λ t. is_roster q || t && (is_of_network id q || is_held_of p.manager.id q)) (sym stays)) m
+
 -- ---- what is held after an edit
 
 -- where the plan isn't touched, no device is
@@ -301,7 +377,7 @@ pub plan_below : (p : Project) (e : Edit) (name : List ℕ) → is_touched p e p
 plan_below p (edit.Version version) name h = cc
 plan_below p (edit.Bitrate rate) name h = refl
 plan_below p (edit.Horizon time) name h = refl
-plan_below p (edit.Manager m) name h = refl
+plan_below p (edit.Manager m) name h = no_test (moves_controller p m.id)
 plan_below p (edit.TimeStamps stamps) name h = refl
 plan_below p (edit.SyncCounter n) name h = refl
 plan_below p (edit.Eds other text) name h = cc
@@ -309,8 +385,8 @@ plan_below p (edit.DropEds other) name h = cc
 plan_below p (edit.Node id node eds) name h = refl
 plan_below p (edit.Need id mandatory) name h = refl
 plan_below p (edit.DropNode id) name h = refl
-plan_below p (edit.Param id index sub text) name h = refl
-plan_below p (edit.Unparam id index sub) name h = refl
+plan_below p (edit.Param id index sub text) name h = no_test (is_controller p id)
+plan_below p (edit.Unparam id index sub) name h = no_test (is_controller p id)
 plan_below p (edit.Message message m) name h = refl
 plan_below p (edit.Start message n) name h = refl
 plan_below p (edit.DropMessage message) name h = refl

@@ -16,8 +16,6 @@ use Rattle.kept_values.specs.Shelved.{kept_at}
 use Rattle.kept_values.proofs.Brought.{option_map_back}
 use Rattle.co_project.specs.declared.node.Node.{Node}
 use Rattle.co_project.specs.Project.{Content as Project}
-use Rattle.eds_device.specs.Entries.{defaults_of, shape_of}
-use Rattle.eds_device.specs.Identity.{identity}
 use Rattle.project_parts.specs.Made.{writes_made}
 use Rattle.project_parts.specs.declared.part.Part.TheVariants as part
 use Rattle.project_parts.proofs.PlanLemmas.{writes_are_of}
@@ -57,7 +55,7 @@ module _ (p : Project) (k : KeptParts) where
       (are (part.Window i) (ap (λ t. t || false) (eq-eqb i i refl)))
 
   module _ (n : ℕ) (are : AreHeld p (for_node n) k) where
-    pub node_held : option_map device_parts (kept_at k.nodes n) ≡ option_map (own_parts n) (member_at p n)
+    pub node_held : option_map device_parts (kept_at k.nodes n) ≡ option_map (own_parts p n) (member_at p n)
     unfolding AreHeld
     node_held =
         ap (option_map device_parts)
@@ -84,13 +82,13 @@ module _ (p : Project) (k : KeptParts) where
         by None none = refl
         by (Some m) none = cc
 
-    pub all_parts : (d : DeviceParts) (w : List Write) → Some d ≡ option_map (own_parts n) (member_at p n)
+    pub all_parts : (d : DeviceParts) (w : List Write) → Some d ≡ option_map (own_parts p n) (member_at p n)
         → Some w ≡ option_map (λ (m : Member). writes_of p m n) (member_at p n)
         → Some (record { defaults = d.defaults; shape = d.shape; expect = d.expect; writes = w })
         ≡ option_map (held_of p n) (member_at p n)
     all_parts d w = by (member_at p n)
       where
-        by : (o : Option Member) → Some d ≡ option_map (own_parts n) o
+        by : (o : Option Member) → Some d ≡ option_map (own_parts p n) o
             → Some w ≡ option_map (λ (m : Member). writes_of p m n) o
             → Some (record { defaults = d.defaults; shape = d.shape; expect = d.expect; writes = w })
             ≡ option_map (held_of p n) o
@@ -99,9 +97,9 @@ module _ (p : Project) (k : KeptParts) where
             ap (λ (v : DeviceParts).
             Some (record { defaults = v.defaults; shape = v.shape; expect = v.expect; writes = w })) (same_some own)
             ∙ ap (λ (v : List Write). Some (record {
-              defaults = defaults_of m.sheet n;
-              shape = shape_of m.sheet n;
-              expect = record { numbers = identity m.sheet n };
+              defaults = (own_parts p n m).defaults;
+              shape = (own_parts p n m).shape;
+              expect = (own_parts p n m).expect;
               writes = v;
             })) (same_some written)
 

@@ -31,8 +31,8 @@ impl KeptParts {
         ensures plan { OnOk result (AreHeld project.now (for_plan project.now) self.new) }
         ensures rises { Rises meter.old meter.new }
     {
-        self.bring_device_parts(project, node, meter)?;
         self.bring_writes(project, node, meter)?;
+        self.bring_device_parts(project, node, meter)?;
         Ok(())
     }
 

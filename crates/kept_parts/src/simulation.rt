@@ -1,11 +1,12 @@
 //! What else a simulation reads, brought up to date, each part after what it is made from.
-ghost use Rattle.std.specs.Prelude.{◌≡◌, ◌≤◌, ◌+◌, ◌*◌, ◌∷◌, [], OnOk, IfOk, option_map};
+ghost use Rattle.std.specs.Prelude.{◌≡◌, ◌≤◌, ◌+◌, ◌*◌, ◌∷◌, ◌++◌, [], OnOk, IfOk, option_map};
+ghost use Rattle.std.specs.Option.{option_map_or};
 ghost use Rattle.kept_values.specs.Stale.{AreBrought};
 ghost use Rattle.kept_values.specs.Work.{Rises};
 ghost use Rattle.co_scenario.specs.Scenario.{events_between};
 ghost use Rattle.network_image.specs.Devices.{HoldsDevices};
-ghost use Rattle.project_parts.specs.Given.{device_from, inputs_of, same_part};
-ghost use Rattle.project_parts.specs.Reached.{own_device, parts_for, IsPart};
+ghost use Rattle.project_parts.specs.Given.{device_from, inputs_of, own_given, same_part};
+ghost use Rattle.project_parts.specs.Reached.{for_own, own_device, parts_for, IsPart};
 ghost use Rattle.kept_parts.specs.Kept.{kept_inputs, IsOf};
 
 use crate::kept_parts::KeptParts;
@@ -16,14 +17,33 @@ use image_parts::WINDOW;
 use kept_values::Meter;
 use network_image::window_steps;
 use project_parts::{DeviceAt, Part, RosterNow};
+use project_plan::NodeWrites;
 use std::alloc::AllocError;
 
-/// A device with the number of its node.
-fn device_at(device: Option<Shared<DataSheet>>, node: u8) -> Option<DeviceAt>
-    ensures { result ≡ option_map (λ d. record { device = d; node = node }) device }
+/// A device with the number of its node, and the writes that this holds by itself.
+fn device_at(
+    device: Option<Shared<DataSheet>>,
+    node: u8,
+    own: Option<Shared<NodeWrites>>,
+) -> Option<DeviceAt>
+    ensures { result ≡ option_map (λ d. record { device = d; node = node; own = own }) device }
 {
     let device = device?;
-    Some(DeviceAt { device, node })
+    Some(DeviceAt { device, node, own })
+}
+
+/// The same node with this device in place of its own, if there is one.
+fn with_device(now: DeviceAt, device: Option<Shared<DataSheet>>) -> DeviceAt
+    ensures { result ≡ option_map_or (λ d. record now { device = d }) device now }
+{
+    match device {
+        Some(device) => DeviceAt {
+            device,
+            node: now.node,
+            own: now.own,
+        },
+        None => now,
+    }
 }
 
 impl KeptParts {
@@ -43,7 +63,31 @@ impl KeptParts {
         Ok(())
     }
 
-    /// Brings the device of a node up to date, and shares it with its number.
+    /// Brings the writes of a node up to date, and shares them, where the manager runs in it.
+    fn bring_own_writes(
+        &mut self,
+        project: &Project,
+        node: u8,
+        meter: &mut Meter,
+    ) -> Result<Option<Shared<NodeWrites>>, AllocError>
+        requires { IsOf project.now self.old }
+        ensures is_of { IsOf project.now self.new }
+        ensures brings { OnOk result (AreBrought same_part (inputs_of project.now) (for_own project.now node)
+            (kept_inputs self.old) (kept_inputs self.new) meter.old meter.new) }
+        ensures value { IfOk result (λ own. own ≡ own_given project.now node) }
+        ensures rises { Rises meter.old meter.new }
+    {
+        if !project.is_controller(node) {
+            return Ok(None);
+        }
+        let Some(written) = self.bring_writes(project, node, meter)? else {
+            return Ok(None);
+        };
+        Ok(Some(written.into_writes()))
+    }
+
+    /// Brings the device of a node up to date, and its writes where the manager runs in it, and shares them with its
+    /// number.
     fn bring_numbered(
         &mut self,
         project: &Project,
@@ -52,13 +96,15 @@ impl KeptParts {
     ) -> Result<Option<DeviceAt>, AllocError>
         requires { IsOf project.now self.old }
         ensures is_of { IsOf project.now self.new }
-        ensures brings { OnOk result (AreBrought same_part (inputs_of project.now) (own_device project.now node)
+        ensures brings { OnOk result (AreBrought same_part (inputs_of project.now)
+            (for_own project.now node ++ own_device project.now node)
             (kept_inputs self.old) (kept_inputs self.new) meter.old meter.new) }
         ensures value { IfOk result (λ d. d ≡ device_from project.now node) }
         ensures rises { Rises meter.old meter.new }
     {
+        let own = self.bring_own_writes(project, node, meter)?;
         let device = self.bring_own_device(project, node, meter)?;
-        Ok(device_at(device, node))
+        Ok(device_at(device, node, own))
     }
 
     /// The device of a node with its number, with what it has alike at every node, to build from.
@@ -76,9 +122,12 @@ impl KeptParts {
         let Some(known) = project.node(node) else {
             return Ok(now);
         };
+        let Some(now) = now else {
+            return Ok(None);
+        };
         let name = known.eds.as_slice();
         let found = self.common_device_of_now(project, name)?;
-        Ok(device_at(found, node).or(now))
+        Ok(Some(with_device(now, found)))
     }
 
     /// Brings what a node has by its device up to date.

@@ -1,7 +1,8 @@
 //! Marks of what edits may leave with other inputs.
-ghost use Rattle.std.specs.Prelude.{◌≡◌, ◌||◌, Ok};
-ghost use Rattle.co_project.specs.Project.{accept, Content};
+ghost use Rattle.std.specs.Prelude.{◌≡◌, ◌||◌, ◌&&◌, Ok};
+ghost use Rattle.co_project.specs.Project.{accept, is_controller, Content};
 ghost use Rattle.project_parts.specs.Touch.{touch_value};
+ghost use Rattle.project_parts.specs.Touched.{holds_writes, is_held_of, is_of_manager, moves_controller};
 ghost use Rattle.project_parts.specs.Touched.{is_of_network, is_of_node, is_of_text, is_planned, is_roster, is_window};
 ghost use Rattle.project_parts.specs.Touched.{goes_into, is_touched, is_window_at, is_window_of, is_wrong, reads_version, says_rate};
 ghost use Rattle.kept_parts.specs.Kept.{kept_inputs, IsOf};
@@ -15,6 +16,14 @@ use co_scenario::Script;
 use image_parts::WINDOW;
 use project_edits::Edit;
 use project_parts::{Part, Touch, touch_of};
+
+/// Whether the manager, once it has this number, runs in another node, in none, or in one that it didn't run in.
+fn moves_controller(project: &Project, id: u8) -> bool
+    ensures { result ≡ moves_controller project.now id }
+{
+    let runs_in_one = project.controller().is_some() || project.node(id).is_some();
+    id != project.manager().id && runs_in_one
+}
 
 impl KeptParts {
     /// Marks what says the bit rate.
@@ -32,13 +41,30 @@ impl KeptParts {
         self.roster.mark();
     }
 
-    /// Marks what is made from the parameters of a node.
-    fn touch_parameters(&mut self, id: u8)
+    /// Marks the writes of a node and its files.
+    fn touch_files(&mut self, id: u8)
         ensures { Marks (is_of_node id) self.old self.new }
     {
         self.writes.mark(id);
         self.concise.mark(id);
         self.dcf.mark(id);
+    }
+
+    /// Marks what the node of a number has by its device.
+    fn touch_held(&mut self, id: u8)
+        ensures { Marks (is_held_of id) self.old self.new }
+    {
+        self.nodes.mark(id);
+    }
+
+    /// Marks what is made from the parameters of a node.
+    fn touch_parameters(&mut self, project: &Project, id: u8)
+        ensures { Marks (λ q. is_of_node id q || is_controller project.now id && is_held_of id q) self.old self.new }
+    {
+        self.touch_files(id);
+        if project.is_controller(id) {
+            self.touch_held(id);
+        }
     }
 
     /// Marks the plan and what is made from it.
@@ -49,6 +75,23 @@ impl KeptParts {
         self.writes.mark_all();
         self.concise.mark_all();
         self.dcf.mark_all();
+    }
+
+    /// Marks what the node has by its device that the manager runs in.
+    fn touch_controller(&mut self, project: &Project)
+        ensures { Marks (holds_writes project.now) self.old self.new }
+    {
+        if let Some(id) = project.controller() {
+            self.touch_held(id);
+        }
+    }
+
+    /// Marks the plan, what is made from it, and what the node has by its device that the manager runs in.
+    fn touch_messages(&mut self, project: &Project)
+        ensures { Marks (λ q. is_planned q || holds_writes project.now q) self.old self.new }
+    {
+        self.touch_plan();
+        self.touch_controller(project);
     }
 
     /// Marks the devices and all that is made of them, and the roster.
@@ -70,6 +113,25 @@ impl KeptParts {
         self.roster.mark();
         self.nodes.mark(id);
         self.windows.mark_all();
+    }
+
+    /// Marks what a node goes into, and what the node has by its device that the manager runs in.
+    fn touch_node(&mut self, project: &Project, id: u8)
+        ensures { Marks (λ q. is_of_network id q || holds_writes project.now q) self.old self.new }
+    {
+        self.touch_network(id);
+        self.touch_controller(project);
+    }
+
+    /// Marks what the number of the manager goes into.
+    fn touch_manager(&mut self, project: &Project, id: u8)
+        ensures { Marks (is_of_manager project.now id) self.old self.new }
+    {
+        self.touch_roster();
+        if moves_controller(project, id) {
+            self.touch_network(id);
+            self.touch_held(project.manager().id);
+        }
     }
 
     /// Marks what is made from the text of an EDS.
@@ -114,25 +176,27 @@ impl KeptParts {
     }
 
     /// Marks what a change goes into, but for the diagnostics.
-    fn mark(&mut self, touch: Touch<'_>, events: &Script)
-        ensures { Marks (goes_into events.now (touch_value touch.entry)) self.old self.new }
+    fn mark(&mut self, touch: Touch<'_>, project: &Project)
+        ensures { Marks (goes_into project.now (touch_value touch.entry)) self.old self.new }
     {
+        let events = project.events();
         match touch {
             Touch::Nothing => (),
             Touch::Rate => self.touch_rate(),
+            Touch::Manager(id) => self.touch_manager(project, id),
             Touch::Roster => self.touch_roster(),
             Touch::Version => self.touch_version(),
             Touch::Sheet(name) => self.touch_text(name),
-            Touch::Node(id) => self.touch_network(id),
-            Touch::Parameters(id) => self.touch_parameters(id),
-            Touch::Messages => self.touch_plan(),
+            Touch::Node(id) => self.touch_node(project, id),
+            Touch::Parameters(id) => self.touch_parameters(project, id),
+            Touch::Messages => self.touch_messages(project),
             Touch::Event(number, time) => self.touch_moved(events, number, time),
             Touch::NoEvent(number) => self.touch_event(events, number),
         }
     }
 
     /// Marks what an edit of a project may leave with other inputs. Takes no memory, and constant time but for the
-    /// logarithms of the numbers of EDS and of events; an edit of the version takes time by the number of EDS. A mark
+    /// logarithms of the numbers of EDS, of nodes and of events; an edit of the version takes time by the number of EDS. A mark
     /// too many does no harm: so it may come before the edit is taken or refused.
     pub fn touch(&mut self, edit: &Edit, project: &Project)
         ensures held { (q : Part) → kept_inputs self.new q ≡ kept_inputs self.old q }
@@ -152,7 +216,7 @@ impl KeptParts {
     {
         let swept = stays_swept(self.swept, edit);
         self.touch_found();
-        self.mark(touch_of(edit), project.events());
+        self.mark(touch_of(edit), project);
         self.swept = swept;
     }
 }

@@ -11,7 +11,7 @@ use Rattle.can_frame.specs.declared.waiting.Waiting.{Waiting}
 use Rattle.base.specs.Moments.{moments_of}
 use Rattle.node_boot.specs.Boot.{sdo_time_out, deadline_of, is_timed_out}
 use Rattle.node_boot.specs.declared.boot_stage.BootStage.{BootStage}
-use Rattle.node_boot.specs.declared.boot_stage.BootStage.TheVariants.{Unseen, Comparing, Writing, Configured, Failed}
+use Rattle.node_boot.specs.declared.boot_stage.BootStage.TheVariants.{Unseen, Comparing, Writing, Configured, Failed, Own}
 use Rattle.manager_nodes.specs.declared.booting.Booting.{Booting}
 use Rattle.node_boot.specs.declared.note.Note.{Note}
 use Rattle.node_boot.specs.declared.note_kind.NoteKind.{NoteKind}
@@ -21,6 +21,10 @@ use Rattle.node_boot.specs.declared.note_kind.NoteKind.TheVariants as kind
 
 abbrev pub unseen_node : ℕ → Booting
 unseen_node number = record { number = number; stage = Unseen }
+
+-- at first no boot-up of a node was seen; that of the manager's number is the manager's own
+abbrev pub first_node : ℕ → ℕ → Booting
+first_node manager number = if number == manager then record { number = number; stage = Own } else unseen_node number
 
 abbrev pub is_from : ℕ → ℕ → Booting → Bool
 is_from base id node = base + node.number == id
@@ -48,6 +52,16 @@ has_booted (Comparing place expected transfer deadline) = false
 has_booted (Writing place transfer deadline) = false
 has_booted Configured = true
 has_booted Failed = false
+has_booted Own = false
+
+-- the manager runs in it
+abbrev pub is_own : BootStage → Bool
+is_own Unseen = false
+is_own (Comparing place expected transfer deadline) = false
+is_own (Writing place transfer deadline) = false
+is_own Configured = false
+is_own Failed = false
+is_own Own = true
 
 unfoldable pub is_configured : List Booting → ℕ → Bool
 is_configured nodes number = list_any (λ node. (node.number == number) && has_booted node.stage) nodes
@@ -74,6 +88,7 @@ note_of_loss (Comparing place expected transfer deadline) = None
 note_of_loss (Writing place transfer deadline) = None
 note_of_loss Configured = Some kind.Lost
 note_of_loss Failed = None
+note_of_loss Own = None
 
 -- ---- time-outs
 

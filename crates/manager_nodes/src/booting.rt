@@ -4,7 +4,8 @@ ghost use Rattle.std.specs.Prelude.{◌≡◌, ◌++◌, ◌∷◌, ◌↔◌, [
 ghost use Rattle.image_parts.specs.Asking.{outcome};
 ghost use Rattle.image_parts.specs.Record.{BeginsWith, IsAsked, Lasts};
 ghost use Rattle.node_boot.specs.Boot as rules;
-ghost use Rattle.manager_nodes.specs.Table.{has_booted as is_booted, note_of_loss as lost_by, note_of_time_out, queue_after_time_out};
+ghost use Rattle.manager_nodes.specs.Table.{has_booted as is_booted, is_own as is_managers_own, note_of_loss as lost_by};
+ghost use Rattle.manager_nodes.specs.Table.{note_of_time_out, queue_after_time_out};
 
 use crate::sent::Sent;
 use crate::telling::{note, send_request};
@@ -47,6 +48,13 @@ impl Booting {
         ensures { result ≡ is_booted self.now.stage }
     {
         matches!(self.stage, BootStage::Configured)
+    }
+
+    /// Whether the manager runs in the node.
+    pub fn is_own(&self) -> bool
+        ensures { result ≡ is_managers_own self.now.stage }
+    {
+        matches!(self.stage, BootStage::Own)
     }
 
     /// What is noted where the node boots anew.

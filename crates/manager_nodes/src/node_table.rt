@@ -7,7 +7,7 @@ ghost use Rattle.base.specs.Moments.{earliest};
 ghost use Rattle.node_boot.specs.Boot.{boot_nmt_slave, sdo_answer};
 ghost use Rattle.manager_nodes.specs.Table.{all_configured, is_configured as has_node_configured};
 ghost use Rattle.manager_nodes.specs.Table.{deadlines, note_of_loss, note_of_time_out, node_after, node_at};
-ghost use Rattle.manager_nodes.specs.Table.{place_of as is_place_of, queue_after_time_outs, timed_out, unseen_node};
+ghost use Rattle.manager_nodes.specs.Table.{first_node, is_own as is_managers_own, place_of as is_place_of, queue_after_time_outs, timed_out};
 ghost use Rattle.manager_nodes.specs.Table.{with_stage};
 ghost use Rattle.manager_nodes.specs.Sending.{sending_of};
 
@@ -44,16 +44,25 @@ impl Model for NodeTable {
     ghost invariant = { λ table. IsTrue table.known → table.deadline ≡ earliest (deadlines table.nodes) };
 }
 
-/// Nodes of which no boot-up came yet.
-fn unseen_nodes(alloc: Global, numbers: &[u8]) -> Result<Vec<Booting>, AllocError>
-    ensures { IfOk result (λ nodes. nodes.items ≡ map unseen_node numbers.now) }
+/// A node at first: that of the manager's number is the manager's own.
+fn first_of_number(manager: u8, number: u8) -> Booting
+    ensures { result ≡ first_node manager number }
+{
+    let stage = if number == manager {
+        BootStage::Own
+    } else {
+        BootStage::Unseen
+    };
+    Booting { number, stage }
+}
+
+/// Nodes at first, of which no boot-up came yet.
+fn first_nodes(alloc: Global, manager: u8, numbers: &[u8]) -> Result<Vec<Booting>, AllocError>
+    ensures { IfOk result (λ nodes. nodes.items ≡ map (first_node manager) numbers.now) }
 {
     let mut nodes = Vec::new(alloc);
     for number in numbers {
-        nodes.push(Booting {
-            number: *number,
-            stage: BootStage::Unseen,
-        })?;
+        nodes.push(first_of_number(manager, *number))?;
     }
     Ok(nodes)
 }
@@ -157,11 +166,11 @@ impl NodeTable {
         }
     }
 
-    /// Nodes of which no boot-up came yet.
-    pub fn unseen(alloc: Global, numbers: &[u8]) -> Result<NodeTable, AllocError>
-        ensures { IfOk result (λ table. table ≡ map unseen_node numbers.now) }
+    /// The nodes of a network at first, of which no boot-up came yet: that of the manager's number is its own.
+    pub fn of(alloc: Global, manager: u8, numbers: &[u8]) -> Result<NodeTable, AllocError>
+        ensures { IfOk result (λ table. table ≡ map (first_node manager) numbers.now) }
     {
-        let nodes = unseen_nodes(alloc, numbers)?;
+        let nodes = first_nodes(alloc, manager, numbers)?;
         let deadline = first_of(&nodes);
         let nodes = SharedNodes::of(alloc, nodes)?;
         Ok(NodeTable {
@@ -220,6 +229,14 @@ impl NodeTable {
         ensures { result ≡ note_of_loss (node_at self.now i).stage }
     {
         self.nodes.as_slice()[i].lost()
+    }
+
+    /// Whether a node of the table is the manager's own.
+    pub fn is_own(&self, i: usize) -> bool
+        requires { i < length self.now }
+        ensures { result ≡ is_managers_own (node_at self.now i).stage }
+    {
+        self.nodes.as_slice()[i].is_own()
     }
 
     /// Whether each node with one of these numbers is configured. Takes time by the number of nodes times that

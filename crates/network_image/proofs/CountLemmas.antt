@@ -23,7 +23,7 @@ use Rattle.node_parameters.specs.Parameters.{parameter_writes}
 use Rattle.node_parameters.proofs.ParameterLemmas.{writes_few, writes_sized}
 use Rattle.image_parts.specs.Images.{greatest_place}
 use Rattle.co_project.specs.declared.node.Node.{Node}
-use Rattle.co_project.specs.Project.{Content as Project}
+use Rattle.co_project.specs.Project.{Content as Project, controller_of}
 use Rattle.co_project.specs.Sound.{AreTexts, IsMessageOf, IsSound}
 use Rattle.co_project.specs.Tables.{node_at, text_at}
 use Rattle.concise_dcf.specs.declared.write.Write.{Write}
@@ -70,7 +70,7 @@ module _ (p : Project) (sound : IsSound p) where
   unfolding plan_of_project
   all_within =
       let cs : List Clean = clean (plan_of_project p) in
-      let devices : Devices = devices_of (is_three p.version) (sheets_of_members p) in
+      let devices : Devices = devices_of (is_three p.version) (controller_of p) (sheets_of_members p) in
       all_clean IsWithin cs (each_within devices (λ before c. IsWithin c)
       (λ withheld before m c kept e. clean_within (had_by withheld before) devices m c kept e) (entries p.messages) all_linked)
 

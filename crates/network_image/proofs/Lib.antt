@@ -1,7 +1,10 @@
 pub mod CoherentLemmas
+pub mod ControllerLemmas
 pub mod CountLemmas
 pub mod DeviceLemmas
 pub mod HeldLemmas
+pub mod LengthLemmas
+pub mod OwnLemmas
 pub mod PartsLemmas
 pub mod PointerLemmas
 pub mod RosterLemmas

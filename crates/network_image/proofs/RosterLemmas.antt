@@ -1,5 +1,5 @@
 -- The roster of a project is one.
-use Rattle.std.proofs.Common.{◌≡◌, ◌≢◌, ℕ, ◌<◌, ◌≤◌, ◌==◌, ◌||◌, ◌⊎◌, Bool, true, false, cond, T, List, [], ◌∷◌}
+use Rattle.std.proofs.Common.{◌≡◌, ◌≢◌, ℕ, ◌<◌, ◌≤◌, ◌==◌, ◌||◌, ◌&&◌, not, ◌⊎◌, Bool, true, false, cond, T, List, [], ◌∷◌}
 use Rattle.std.proofs.Common.{All, Contains, refl, arith, inl, inr}
 use Rattle.std.specs.Prelude.{map, nat_eq, filter, Option, Some, None, IfSome, ◌^◌}
 use Rattle.std.specs.List.{AllByRecursion}
@@ -7,7 +7,7 @@ use Rattle.std.specs.Ordering.{nat_cmp, is_lt}
 use Rattle.std.specs.FinMap.{entries, entries_sorted, is_sorted, keys}
 use Rattle.std.specs.Map.{keys_of}
 use Rattle.std.specs.FinMap.Entries.{below_all}
-use Rattle.std.proofs.lemmas.Bool.{eq-eqb, eqb-true}
+use Rattle.std.proofs.lemmas.Bool.{eqb-true}
 use Rattle.std.proofs.lemmas.Bool.Decides.{nat_tests}
 use Rattle.std.proofs.lemmas.Cmp.{nat_cmp_total}
 use Rattle.std.proofs.lemmas.List.Elements.{All-contains_itself, All-head, All-tail, recursion_from_All}
@@ -18,13 +18,18 @@ use Rattle.pdo_choices.proofs.RangeLemmas.{between}
 use Rattle.base.specs.Ranges.{is_between}
 use Rattle.project_edits.specs.Edits.{AreTimeStamps, IsManager}
 use Rattle.project_edits.specs.Stamps.{first_day_of, period_of}
+use Rattle.project_edits.specs.Versions.{is_three}
+use Rattle.project_edits.specs.declared.script_version.ScriptVersion.{ScriptVersion}
+use Rattle.project_edits.specs.declared.script_version.ScriptVersion.TheVariants.{One, Two, Three}
 use Rattle.project_edits.specs.declared.time_stamps.TimeStamps.{TimeStamps}
 use Rattle.co_project.specs.declared.node.Node.{Node}
-use Rattle.co_project.specs.Project.{Content as Project}
+use Rattle.co_project.specs.Project.{Content as Project, is_controller}
 use Rattle.co_project.specs.Sound.{AreTimeStampsOf, IsNodeOf, IsSound}
-use Rattle.image_parts.specs.Images.{AllDiffer, IsNode, IsRoster}
-use Rattle.cia301.specs.Limits.{bit_rates}
-use Rattle.network_image.specs.Image.{mandatory_of, roster_of_project}
+use Rattle.image_parts.specs.Images.{AllDiffer, IsRoster}
+use Rattle.image_parts.specs.Rosters.{is_among}
+use Rattle.image_parts.specs.declared.start_mode.StartMode.TheVariants.{ConfiguredNodes}
+use Rattle.cia301.specs.Limits.{bit_rates, IsNodeNumber}
+use Rattle.network_image.specs.Image.{mandatory_of, roster_of_project, start_mode_of}
 
 -- none, or from a least number to a greatest
 none_or_between : (least most n : ℕ) → (n == 0 || is_between least most n) ≡ true
@@ -35,17 +40,39 @@ none_or_between least most n is = by (n == 0) refl is
     by true none h = inl (eqb-true n 0 none)
     by false some h = inr (between least most n h)
 
--- the numbers of nodes aren't the manager's
-numbers_apart : (p : Project) (nodes : List (ℕ × Node)) → All (λ e. IsNodeOf p e.0 e.1) nodes
-    → AllByRecursion (IsNode p.manager.id) (map (λ e. e.0) nodes)
+-- the numbers of nodes
+numbers_within : (p : Project) (nodes : List (ℕ × Node)) → All (λ e. IsNodeOf p e.0 e.1) nodes
+    → AllByRecursion IsNodeNumber (map (λ e. e.0) nodes)
 unfolding IsNodeOf
-numbers_apart p [] all = tt
-numbers_apart p (e ∷ nodes) all =
-    let is : IsNodeOf p e.0 e.1 = All-head (λ x. IsNodeOf p x.0 x.1) e nodes all in
-    let range = between 1 127 e.0 is.0 in (
-      (range.0, range.1, λ same. cc (is.1, eq-eqb e.0 p.manager.id same)),
-      numbers_apart p nodes (All-tail (λ x. IsNodeOf p x.0 x.1) e nodes all),
+numbers_within p [] all = tt
+numbers_within p (e ∷ nodes) all =
+    let is : IsNodeOf p e.0 e.1 = All-head (λ x. IsNodeOf p x.0 x.1) e nodes all in (
+      between 1 127 e.0 is.0,
+      numbers_within p nodes (All-tail (λ x. IsNodeOf p x.0 x.1) e nodes all),
     )
+
+-- before version 3 none is the manager's
+managers_own : (p : Project) (nodes : List (ℕ × Node)) → All (λ e. IsNodeOf p e.0 e.1) nodes
+    → is_among p.manager.id (map (λ e. e.0) nodes) ≡ true → is_three p.version ≡ true
+unfolding IsNodeOf
+managers_own p [] all found = cc
+managers_own p (e ∷ nodes) all found =
+    let is : IsNodeOf p e.0 e.1 = All-head (λ x. IsNodeOf p x.0 x.1) e nodes all in
+    by (is_three p.version) (e.0 == p.manager.id) refl is.1 found
+    (managers_own p nodes (All-tail (λ x. IsNodeOf p x.0 x.1) e nodes all))
+  where
+    by : (three same : Bool) → is_three p.version ≡ three → (not three && same) ≡ false
+        → (same || is_among p.manager.id (map (λ e. e.0) nodes)) ≡ true
+        → (is_among p.manager.id (map (λ e. e.0) nodes) ≡ true → is_three p.version ≡ true)
+        → is_three p.version ≡ true
+    by true same is own found rest = is
+    by false true is own found rest = cc
+    by false false is own found rest = rest found
+
+starts_configured : (version : ScriptVersion) → is_three version ≡ true → start_mode_of version ≡ ConfiguredNodes
+starts_configured One three = cc
+starts_configured Two three = cc
+starts_configured Three three = refl
 
 less : (a b : ℕ) → T (is_lt (nat_cmp a b)) → a < b
 less a b h = grind (arith, nat_tests)
@@ -75,9 +102,9 @@ keys_left P test (e ∷ es) all = by (test e) (keys_left P test es all.1)
     by false rest = rest
 
 -- the mandatory nodes are among the nodes
-mandatory_among : (p : Project) → AllByRecursion (Contains (keys p.nodes)) (mandatory_of p.nodes)
+mandatory_among : (p : Project) → AllByRecursion (Contains (keys p.nodes)) (mandatory_of p)
 mandatory_among p =
-    keys_left (Contains (keys p.nodes)) (λ (e : ℕ × Node). e.1.mandatory) (entries p.nodes)
+    keys_left (Contains (keys p.nodes)) (λ (e : ℕ × Node). e.1.mandatory && not (is_controller p e.0)) (entries p.nodes)
     (recursion_from_All (Contains (keys p.nodes)) (keys p.nodes) (All-contains_itself (keys p.nodes)))
 
 -- the numbers of time stamps lie within their limits
@@ -103,7 +130,9 @@ is_roster p sound = record {
   first_day = stamps_day p p.time_stamps sound.time_stamps;
   heartbeat = let most = between 0 65535 p.manager.heartbeat_ms sound.manager.2 in omega (arith, most.1);
   timeout = let range = between 1 65535 p.manager.timeout_ms sound.manager.3 in (range.0, omega (arith, range.1));
-  nodes = numbers_apart p (entries p.nodes) (all_entries nat_cmp_total exact_unsigned (IsNodeOf p) p.nodes sound.nodes);
+  nodes = numbers_within p (entries p.nodes) (all_entries nat_cmp_total exact_unsigned (IsNodeOf p) p.nodes sound.nodes);
+  controller = λ there. starts_configured p.version (managers_own p (entries p.nodes)
+      (all_entries nat_cmp_total exact_unsigned (IsNodeOf p) p.nodes sound.nodes) there);
   differ = keys_differ (entries p.nodes) (entries_sorted p.nodes);
   mandatory = mandatory_among p;
 }

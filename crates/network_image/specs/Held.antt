@@ -7,7 +7,8 @@ use Rattle.concise_dcf.specs.declared.write.Write.{Write}
 use Rattle.co_dict.specs.Shapes.{Shaped}
 use Rattle.co_dict.specs.Values.{Values}
 use Rattle.project_plan.specs.Network.{writes_of, Member}
-use Rattle.co_project.specs.Project.{Content as Project}
+use Rattle.co_project.specs.Project.{Content as Project, is_controller}
+use Rattle.project_plan.specs.Controller.{defaults_held, own_writes, shape_held}
 use Rattle.std.specs.List.{AllByRecursion}
 use Rattle.image_parts.specs.Images.{AreInOrder, IsWithin}
 use Rattle.image_parts.specs.declared.identity.Identity.{Identity}
@@ -50,8 +51,8 @@ with_steps i (s ∷ steps) windows = insert windows i (s ∷ steps)
 -- the parts of a node that is made of its EDS
 abbrev pub held_of : Project → ℕ → Member → PartsOfNode
 held_of project node m = record {
-  defaults = defaults_of m.sheet node;
-  shape = shape_of m.sheet node;
+  defaults = defaults_held (own_writes project node (writes_of project m node)) (defaults_of m.sheet node);
+  shape = shape_held (is_controller project node) (shape_of m.sheet node);
   expect = record { numbers = identity m.sheet node };
   writes = writes_of project m node;
 }

@@ -1,5 +1,5 @@
 -- THE IMAGE of a project: what each part of a simulation is, by its name (this profile's own).
-use Rattle.std.specs.Prelude.{ℕ, List, Option, Some, option_map, option_and_then, slice_get, filter}
+use Rattle.std.specs.Prelude.{ℕ, ◌&&◌, not, List, Option, Some, option_map, option_and_then, slice_get, filter}
 use Rattle.std.specs.FinMap.{entries, keys}
 use Rattle.std.specs.Map.{keys_of}
 use Rattle.concise_dcf.specs.declared.write.Write.{Write}
@@ -11,10 +11,10 @@ use Rattle.eds_device.specs.Identity.{identity}
 use Rattle.project_edits.specs.Stamps.{first_day_of, period_of}
 use Rattle.project_edits.specs.declared.script_version.ScriptVersion.{ScriptVersion}
 use Rattle.project_edits.specs.declared.script_version.ScriptVersion.TheVariants.{One, Two, Three}
+use Rattle.project_plan.specs.Controller.{defaults_held, own_writes}
 use Rattle.project_plan.specs.Events.{shape_of_node}
 use Rattle.project_plan.specs.Network.{member_at, writes_of, Member}
-use Rattle.co_project.specs.Project.{Content as Project}
-use Rattle.co_project.specs.Tables.{Nodes}
+use Rattle.co_project.specs.Project.{Content as Project, is_controller}
 use Rattle.co_scenario.specs.declared.timed_step.TimedStep.{TimedStep}
 use Rattle.image_parts.specs.Contents.{Image, RosterIs, DefaultsAre, ShapeIs, ExpectIs, BootIs, EventsAre}
 use Rattle.image_parts.specs.declared.identity.Identity.{Identity}
@@ -37,9 +37,9 @@ slot_rule One = Unstuffed
 slot_rule Two = Unstuffed
 slot_rule Three = Stuffed
 
--- the numbers of the mandatory nodes, in rising order
-abbrev pub mandatory_of : Nodes → List ℕ
-mandatory_of nodes = keys_of (filter (λ e. e.1.mandatory) (entries nodes))
+-- the numbers of the mandatory nodes, in rising order: the manager waits for none that it runs in
+abbrev pub mandatory_of : Project → List ℕ
+mandatory_of project = keys_of (filter (λ e. e.1.mandatory && not (is_controller project e.0)) (entries project.nodes))
 
 -- the bit rate, which bits of a frame take the bus, the manager with what it sends periodically, when it starts nodes, and
 -- the numbers of the nodes
@@ -55,13 +55,15 @@ roster_of_project project = record {
   heartbeat_ms = project.manager.heartbeat_ms;
   timeout_ms = project.manager.timeout_ms;
   start_mode = start_mode_of project.version;
-  mandatory = mandatory_of project.nodes;
+  mandatory = mandatory_of project;
   nodes = keys project.nodes;
 }
 
--- the default values of the device of its EDS, at its number
+-- the default values of the device of its EDS, at its number; the device that the manager runs in has its writes besides
 unfoldable pub defaults_of_node : Project → ℕ → Option Values
-defaults_of_node project node = option_map (λ (m : Member). defaults_of m.sheet node) (member_at project node)
+defaults_of_node project node =
+    option_map (λ (m : Member). defaults_held (own_writes project node (writes_of project m node)) (defaults_of m.sheet node))
+    (member_at project node)
 
 -- the device type and the identity of the device of its EDS
 unfoldable pub identity_of_node : Project → ℕ → Option Identity

@@ -1,4 +1,5 @@
 pub mod Image
+pub mod Controller
 pub mod Parts
 pub mod Held
 pub mod Network

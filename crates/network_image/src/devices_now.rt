@@ -3,6 +3,7 @@ ghost use Rattle.std.specs.Prelude.{◌≡◌, IfOk};
 ghost use Rattle.project_plan.specs.Events.{bytes_set, shape_of_node};
 ghost use Rattle.network_image.specs.Devices.{HoldsDevices};
 
+use crate::controller::is_producer_time;
 use base::Octets;
 use co_project::Project;
 use node_parameters::judge_set;
@@ -18,8 +19,8 @@ pub(crate) struct DevicesNow<'a> {
 }
 
 impl<'a> DevicesNow<'a> {
-    /// The value that an event sets by its text: none where the entry isn't there, or the text spells no
-    /// value of its type. Want of memory is the only error.
+    /// The value that an event sets by its text: none where the entry isn't there, as the producer heartbeat time of the
+    /// device that the manager runs in, or the text spells no value of its type. Want of memory is the only error.
     pub fn bytes_set(
         &self,
         alloc: Global,
@@ -37,6 +38,9 @@ impl<'a> DevicesNow<'a> {
         let Some(device) = self.devices.value(known.eds.as_slice()) else {
             return Ok(None);
         };
+        if self.project.is_controller(node) && is_producer_time(index, sub) {
+            return Ok(None);
+        }
         let given = judge_set(alloc, device.get(), node, index, sub, text)?;
         match given {
             Ok(bytes) => Ok(Some(bytes)),

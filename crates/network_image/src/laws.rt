@@ -1,11 +1,12 @@
 //! Laws of the image of a project.
-ghost use Rattle.std.specs.Prelude.{◌≡◌, ◌↔◌, ℕ, Contains, List, None, Some};
+ghost use Rattle.std.specs.Prelude.{◌≡◌, ◌↔◌, ℕ, true, Contains, List, None, Some};
 ghost use Rattle.eds_device.specs.Sheets.{sheet_of};
 ghost use Rattle.project_edits.specs.Versions.{is_three};
 ghost use Rattle.co_project.specs.declared.node.Node.{Node as member};
-ghost use Rattle.co_project.specs.Project.{Content as Project};
+ghost use Rattle.co_project.specs.Project.{is_controller, Content as Project};
 ghost use Rattle.co_project.specs.Sound.{IsSound};
 ghost use Rattle.co_project.specs.Tables.{node_at, text_at};
+ghost use Rattle.image_parts.specs.Configured.{HoldsItsWrites};
 ghost use Rattle.image_parts.specs.Images.{IsCoherent, IsImage};
 ghost use Rattle.project_plan.specs.Events.{shape_of_node};
 ghost use Rattle.network_image.specs.Image.{image_of, window_steps};
@@ -33,4 +34,12 @@ pub fn each_node_has_the_parts_of_its_device()
         → (text : List ℕ) × ((text_at project.texts node.eds ≡ Some text)
         × HasParts project id node (sheet_of (is_three project.version) text)) }
     ensures others { (project : Project) (id : ℕ) → node_at project.nodes id ≡ None → HasNoParts project id }
+{}
+
+/// The device that the manager runs in is configured from its power-on on: each entry that writes of its node name has
+/// the data of the last of these, which are those of its concise DCF, but for the producer heartbeat time (CiA 301,
+/// object 1017h), which it doesn't have.
+pub fn the_controller_holds_its_writes()
+    ensures { (project : Project) (node : ℕ) → is_controller project node ≡ true
+        → HoldsItsWrites (image_of project) node }
 {}

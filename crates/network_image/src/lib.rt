@@ -2,6 +2,7 @@
 //! the steps of its events by windows.
 #![tactic(auto)]
 
+mod controller;
 mod devices_now;
 mod held_window;
 pub mod laws;
@@ -14,6 +15,7 @@ mod steps;
 mod window_events;
 mod window_table;
 
+pub use controller::{configured_values, shape_without_producer_time};
 pub use network_parts::NetworkParts;
 pub use node_parts::NodeParts;
 pub use node_table::NodeTable;

@@ -20,13 +20,13 @@ fn node_numbers(alloc: Global, project: &Project) -> Result<Octets, AllocError>
     Ok(Octets::from_vec(numbers))
 }
 
-/// The numbers of a project's mandatory nodes, in rising order.
+/// The numbers of a project's mandatory nodes, in rising order, but for the one that the manager runs in.
 fn mandatory_numbers(alloc: Global, project: &Project) -> Result<Octets, AllocError>
-    ensures { IfOk result (λ numbers. numbers ≡ mandatory_of project.now.nodes) }
+    ensures { IfOk result (λ numbers. numbers ≡ mandatory_of project.now) }
 {
     let mut numbers = Vec::new(alloc);
     for (id, node) in project.nodes() {
-        if node.mandatory {
+        if node.mandatory && !project.is_controller(*id) {
             numbers.push(*id)?;
         }
     }
@@ -95,13 +95,14 @@ fn are_numbers(numbers: &[u8], project: &Project) -> bool
     rest.is_empty()
 }
 
-/// Whether these are the numbers of a project's mandatory nodes, in rising order.
+/// Whether these are the numbers of a project's mandatory nodes, in rising order, but for the one that the manager runs
+/// in.
 fn are_mandatory(numbers: &[u8], project: &Project) -> bool
-    ensures { IsTrue result ↔ (numbers.now ≡ mandatory_of project.now.nodes) }
+    ensures { IsTrue result ↔ (numbers.now ≡ mandatory_of project.now) }
 {
     let mut rest = numbers;
     for (id, node) in project.nodes() {
-        if !node.mandatory {
+        if !node.mandatory || project.is_controller(*id) {
             continue;
         }
         let Some((first, after)) = rest.split_first() else {

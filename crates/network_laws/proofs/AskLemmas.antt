@@ -1,15 +1,16 @@
 -- What the manager reads of a frame, and what an instant reads.
 use Rattle.std.proofs.Common.{◌≡◌, ℕ, suc, ◌+◌, Bool, true, false, List, [], ◌∷◌, All, length, Option, Some, None, inl}
 use Rattle.std.proofs.Common.{inr, refl, sym, ap, ◌∙◌, subst, arith}
-use Rattle.std.specs.Prelude.{Contains, ◌==◌}
+use Rattle.std.specs.Prelude.{Contains, ◌==◌, if◌then◌else◌}
 use Rattle.std.proofs.lemmas.List.Elements.{All-from_recursion}
-use Rattle.image_parts.specs.Asking.{outcome, reads}
+use Rattle.image_parts.specs.Asking.{Answer, outcome, reads}
 use Rattle.image_parts.specs.Each.{each}
 use Rattle.bus_devices.specs.Events.{after_events_at, after_event, after_power_at}
 use Rattle.bus_devices.specs.Steps.{steps_due}
 use Rattle.image_parts.proofs.EachLemmas.{reads_each}
-use Rattle.bus_devices.proofs.EventLemmas.{reads_events, reads_power}
+use Rattle.bus_devices.proofs.EventLemmas.{reads_events}
 use Rattle.can_frame.specs.Identifiers.{error_control_id, sdo_answer_id}
+use Rattle.can_frame.specs.Senders.{device_sender, manager_sender}
 use Rattle.co_device.specs.Device.{Device, after_power, after_reset_node}
 use Rattle.image_parts.specs.Contents.{Content, Image, identity_of}
 use Rattle.image_parts.specs.declared.identity.Identity.{Identity}
@@ -24,12 +25,12 @@ use Rattle.sdo_client.specs.declared.progress.Progress.TheVariants as progress
 use Rattle.sdo_client.specs.declared.client_transfer.ClientTransfer.{ClientTransfer as Transfer}
 use Rattle.device_agenda.specs.Agenda.{hears}
 use Rattle.nmt_boot.proofs.EventLemmas.{answered_reads, boots_reads}
-use Rattle.nmt_boot.specs.Manager.{Manager, after_boot_up, has_boot_up_byte, after_frame, after_sdo_frame}
-use Rattle.manager_nodes.specs.Table.{node_at, place_of}
+use Rattle.nmt_boot.specs.Manager.{Manager, after_boot_at, after_boot_up, after_frame, after_own_boot_up, after_sdo_frame, has_boot_up_byte}
+use Rattle.manager_nodes.specs.Table.{is_own, node_at, place_of}
 use Rattle.node_boot.specs.Boot.{after_compare, after_write, boot_nmt_slave, check_identity, compared_next}
 use Rattle.node_boot.specs.Boot.{download_configuration, is_as_expected, next_compared, sdo_answer}
 use Rattle.node_boot.specs.declared.boot_stage.BootStage.{BootStage}
-use Rattle.node_boot.specs.declared.boot_stage.BootStage.TheVariants.{Unseen, Comparing, Writing, Configured, Failed}
+use Rattle.node_boot.specs.declared.boot_stage.BootStage.TheVariants.{Unseen, Comparing, Writing, Configured, Failed, Own}
 use Rattle.can_bus.specs.Bus.{Bus, after_delivery, ended_slot, after_events, from_delivery_on, delivered_of}
 use Rattle.can_bus.specs.Bus.{instant, manager_after_slot, after_window_start}
 use Rattle.can_bus.specs.declared.slot.Slot.{Slot}
@@ -42,6 +43,7 @@ use Rattle.network_laws.specs.Reads.{AsksForWrite, AsksForWriteNow, IsReadAt, Is
 use Rattle.network_laws.specs.Reads.{IsReadByEvents, IsReadByManager}
 use Rattle.network_laws.proofs.ReadLemmas.{AreFor, both_for, frame_reads, it_is, it_is_not, picked, weaker}
 use Rattle.network_laws.proofs.StageLemmas.{found_is, is_boot}
+use Rattle.network_laws.proofs.SwitchLemmas.{switch_reads}
 use Rattle.network_laws.proofs.ThroughLemmas.{events_keep_wire}
 
 -- ---- the manager and a frame
@@ -126,14 +128,20 @@ module _ (image : Image) (t : ℕ) (slot : Slot) (m : Manager) where
           (after_answer transfer slot.frame.bytes).progress refl
       answer_reads Configured at = tt
       answer_reads Failed at = tt
+      answer_reads Own at = tt
 
   boot_up_reads : (place : Option ℕ) → place_of (error_control_id 0) slot.frame.id m.nodes ≡ place
       → has_boot_up_byte slot.frame.bytes ≡ true → AreFor R (reads (after_boot_up t place m) image)
   unfolding after_boot_up
   boot_up_reads None e b = tt
-  boot_up_reads (Some k) e b =
-      rw (boots_reads t k m image) (booted_reads k (t + m.timeout)
-      (found_is (error_control_id 0) slot.frame.id m.nodes k e, is_boot slot.frame.bytes b))
+  boot_up_reads (Some k) e b = either (is_own (node_at m.nodes k).stage)
+    where
+      either : (x : Bool)
+          → AreFor R (reads (if x then Answer (after_own_boot_up k m, []) else after_boot_at t k m) image)
+      either true = tt
+      either false =
+          rw (boots_reads t k m image) (booted_reads k (t + m.timeout)
+          (found_is (error_control_id 0) slot.frame.id m.nodes k e, is_boot slot.frame.bytes b))
 
   sdo_reads : (place : Option ℕ) → place_of (sdo_answer_id 0) slot.frame.id m.nodes ≡ place
       → AreFor R (reads (after_sdo_frame t slot.frame.bytes place m) image)
@@ -186,7 +194,7 @@ module _ (image : Image) (t : ℕ) (due : List TimedStep) where
   unfolding after_event
   one_event step there (Set node index sub bytes) is ds m = tt
   one_event step there (Power node on) is ds m =
-      rw (reads_power t ds m node on image) (power_all step node there on is ds)
+      switch_reads t ds m node on image (λ rs. AreFor E rs) tt (power_all step node there on is ds)
   one_event step there (Nmt node command) is ds m = tt
 
   first_there : (step : TimedStep) (steps : List TimedStep)
@@ -218,9 +226,9 @@ module _ (image : Image) (t : ℕ) (slot : Slot) (s : Bus) where
   device_hears : (d : Device) → Contains s.devices d → AreFor D (reads (hears t (delivered_of slot) d) image)
   unfolding hears
   device_hears d there =
-      picked image D (d.number == slot.sender) _ _ (λ own. tt)
+      picked image D (device_sender d.number == slot.sender) _ _ (λ own. tt)
       (λ other. weaker (λ part. (d.has_power ≡ true) × IsReadByDevice slot.frame d part) D
-      (λ part h. inl (d, (there, (it_is_not d.number slot.sender other, h)))) _ (frame_reads image t slot.frame d))
+      (λ part h. inl (d, (there, (it_is_not (device_sender d.number) slot.sender other, h)))) _ (frame_reads image t slot.frame d))
 
   devices_hear : (ds : List Device) → ((x : Device) → Contains ds x → Contains s.devices x)
       → AreFor D (reads (each (hears t (delivered_of slot)) ds) image)
@@ -233,9 +241,9 @@ module _ (image : Image) (t : ℕ) (slot : Slot) (s : Bus) where
   manager_there : AreFor D (reads (manager_after_slot t (Some slot) s.manager) image)
   unfolding manager_after_slot
   manager_there =
-      picked image D (s.manager.number == slot.sender) _ _ (λ own. tt)
+      picked image D (manager_sender s.manager.number == slot.sender) _ _ (λ own. tt)
       (λ other. weaker (IsReadByManager image slot s.manager) D
-      (λ part h. inr (it_is_not s.manager.number slot.sender other, h)) _ (manager_reads image t slot s.manager))
+      (λ part h. inr (it_is_not (manager_sender s.manager.number) slot.sender other, h)) _ (manager_reads image t slot s.manager))
 
 module _ (image : Image) (t : ℕ) (s : Bus) where
   abbrev Heard : Option Slot → Part → Type 0

@@ -1,5 +1,5 @@
 -- What the manager makes of the exchange: a boot begins, takes a step by an answer, or has failed.
-use Rattle.std.proofs.Common.{◌≡◌, ℕ, ◌+◌, Bool, List, [], ◌∷◌, ◌++◌, Option, Some, None}
+use Rattle.std.proofs.Common.{◌≡◌, ℕ, ◌+◌, Bool, true, List, [], ◌∷◌, ◌++◌, Option, Some, None}
 use Rattle.std.proofs.Common.{◌⊎◌, inl, inr, refl, sym, ap, subst, arith}
 use Rattle.network_laws.specs.Steps.{ComparesOrWrites, FollowsAnswer, StartsWrite, WritesOn}
 use Rattle.network_laws.specs.Boots.{IsBootUpOf}
@@ -18,16 +18,16 @@ use Rattle.network_laws.specs.Leaves.{answers_of}
 use Rattle.network_laws.specs.Exchanges.{Anything, Asks, Exchanges, HoldsBelow, IsBooting, IsExchanging}
 use Rattle.network_laws.specs.Exchanges.{IsOneAtMost, IsTraffic, Silence, TellsTruth, Tells, Traffic}
 use Rattle.network_laws.specs.Exchanges.{bytes_of, requests_under_way}
-use Rattle.network_laws.specs.Files.{IsWrite}
+use Rattle.image_parts.specs.Configured.{IsWrite}
 use Rattle.concise_dcf.specs.Writes.{place_of}
 use Rattle.network_laws.proofs.DeviceLemmas.{AsStage, here_on_wire}
 use Rattle.network_laws.proofs.ListLemmas.{both_empty, head_is, none_has_bytes, not_empty, one_of_two}
 use Rattle.network_laws.proofs.Others.{download_starts}
 use Rattle.network_laws.proofs.ValueLemmas.{none_below}
-use Rattle.manager_nodes.specs.Table.{sdo_frames}
+use Rattle.manager_nodes.specs.Table.{is_own, sdo_frames}
 use Rattle.node_boot.specs.Boot.{write_started}
 use Rattle.node_boot.specs.declared.boot_stage.BootStage.{BootStage}
-use Rattle.node_boot.specs.declared.boot_stage.BootStage.TheVariants.{Unseen, Comparing, Writing, Configured, Failed}
+use Rattle.node_boot.specs.declared.boot_stage.BootStage.TheVariants.{Unseen, Comparing, Writing, Configured, Failed, Own}
 use Rattle.node_boot.specs.declared.boot_step.BootStep.{BootStep}
 
 -- the request of a step is the frame that is under way
@@ -65,6 +65,7 @@ module _ (image : Image) (node deadline : ℕ) (marks : ℕ × ℕ → Bool) (d 
   compares_as step Configured is c = started_as 0 step c (none_below image node marks d.values)
   compares_as step Failed is c =
       subst (λ (x : BootStage). AsStage image node marks d.values d.transfer x (traffic_of step.request)) (sym is) tt
+  compares_as step Own is c = absurd c
 
   -- by an answer that tells the truth
   writes_as : (j old : ℕ) (w : Write) → IsWrite image node j w → (client : ClientTransfer) (a : List ℕ)
@@ -88,6 +89,7 @@ module _ (image : Image) (node deadline : ℕ) (marks : ℕ × ℕ → Bool) (d 
       writes_as j old h.0 h.1.0 client a h.1.1 (after_answer client a).progress refl step f
   answered_as Configured a step h f = absurd h.0
   answered_as Failed a step h f = subst As (sym f) tt
+  answered_as Own a step h f = absurd h
 
   failed_as : (stage : BootStage) (a : List ℕ) (step : BootStep)
       → AsStage image node marks d.values d.transfer stage Anything
@@ -99,6 +101,17 @@ module _ (image : Image) (node deadline : ℕ) (marks : ℕ × ℕ → Bool) (d 
   failed_as Configured a step h f = absurd h.0
   failed_as Failed a step h f =
       subst (λ (x : BootStep). AsStage image node marks d.values d.transfer x.stage Anything) (sym f) tt
+  failed_as Own a step h f = absurd h
+
+  -- to the manager's own node nothing is under way
+  own_silence : (stage : BootStage) → is_own stage ≡ true
+      → AsStage image node marks d.values d.transfer stage Silence
+  own_silence Unseen e = absurd cc
+  own_silence (Comparing place expected client old) e = absurd cc
+  own_silence (Writing j client old) e = absurd cc
+  own_silence Configured e = absurd cc
+  own_silence Failed e = absurd cc
+  own_silence Own e = tt
 
   -- ---- with nothing else under way, the request of the step is the traffic
 
@@ -128,6 +141,24 @@ module _ (image : Image) (node deadline : ℕ) (marks : ℕ × ℕ → Bool) (d 
             → IsBooting node d None
             ⊎ IsExchanging image node marks d step.stage (sdo_frames node step.request) None
         by (inl b) = inr (stepped step b.silent (compares_as step step.stage refl c))
+        by (inr x) = absurd (x.no_boot_up boot_up)
+
+    -- and the node is the manager's own, to which no request waits
+    pub own_greeted : (slot : Slot) → IsBootUpOf node (Some slot) → is_own stage ≡ true → requests ≡ []
+        → Exchanges image node marks d stage requests (Some slot) → Exchanges image node marks d stage requests None
+    own_greeted slot boot_up itself unasked h on up = by (h on up)
+      where
+        by : IsBooting node d (Some slot) ⊎ IsExchanging image node marks d stage requests (Some slot)
+            → IsBooting node d None ⊎ IsExchanging image node marks d stage requests None
+        by (inl b) = inr (record {
+          no_boot_up = λ x. x;
+          traffic = Silence;
+          is_traffic = (
+            ap (λ (ws : List Waiting). bytes_of ws ++ []) unasked,
+            ap (λ (ws : List Waiting). bytes_of ws ++ []) b.silent,
+          );
+          is_as_stage = own_silence stage itself;
+        })
         by (inr x) = absurd (x.no_boot_up boot_up)
 
     -- its boot has failed

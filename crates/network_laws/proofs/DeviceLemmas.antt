@@ -26,14 +26,14 @@ use Rattle.network_laws.specs.Written.{AgreeButRegister, AreOf, Written}
 use Rattle.network_laws.specs.Exchanges.{Anything, Asks, Exchanges, HoldsBelow, IsAsStage, IsBooting, IsExchanging}
 use Rattle.network_laws.specs.Exchanges.{IsTraffic, Silence, TellsTruth, Tells, Traffic, answers_under_way}
 use Rattle.network_laws.specs.Exchanges.{bytes_of, on_wire, requests_under_way}
-use Rattle.network_laws.specs.Files.{IsWrite}
+use Rattle.image_parts.specs.Configured.{IsWrite}
 use Rattle.concise_dcf.specs.Writes.{place_of}
 use Rattle.network_laws.proofs.ListLemmas.{both_empty, head_is, not_empty, one_of_two}
 use Rattle.network_laws.proofs.MarkLemmas.{stored_elsewhere, told}
 use Rattle.network_laws.proofs.Others.{download_answered, download_dropped}
 use Rattle.network_laws.proofs.ValueLemmas.{nothing_wrote, one_more_below, others_wrote}
 use Rattle.node_boot.specs.declared.boot_stage.BootStage.{BootStage}
-use Rattle.node_boot.specs.declared.boot_stage.BootStage.TheVariants.{Unseen, Comparing, Writing, Configured, Failed}
+use Rattle.node_boot.specs.declared.boot_stage.BootStage.TheVariants.{Unseen, Comparing, Writing, Configured, Failed, Own}
 use Rattle.network_laws.specs.Downloads.{IsUnderWay}
 use Rattle.network_laws.proofs.WaitingLemmas.{number_itself, number_other}
 
@@ -59,6 +59,7 @@ module _ (image : Image) (node : ℕ) where
     request_gone (Writing j client deadline) r h = tt
     request_gone Configured r h = absurd h.0
     request_gone Failed r h = tt
+    request_gone Own r h = absurd h
 
     pub answer_gone : (stage : BootStage) (a : List ℕ) → AsStage marks values transfer stage (Tells a)
         → AsStage after left next stage Silence
@@ -67,6 +68,7 @@ module _ (image : Image) (node : ℕ) where
     answer_gone (Writing j client deadline) a h = tt
     answer_gone Configured a h = absurd h.0
     answer_gone Failed a h = tt
+    answer_gone Own a h = absurd h
 
     pub anything_stays : (stage : BootStage) → AsStage marks values transfer stage Anything
         → AsStage after left next stage Anything
@@ -75,6 +77,7 @@ module _ (image : Image) (node : ℕ) where
     anything_stays (Writing j client deadline) h = absurd h
     anything_stays Configured h = absurd h.0
     anything_stays Failed h = tt
+    anything_stays Own h = absurd h
 
   -- ---- the slot of a frame ends, and nobody took it
 
@@ -184,6 +187,7 @@ module _ (image : Image) (node : ℕ) where
     stage_left (Writing j client deadline) Anything h = absurd h
     stage_left Configured traffic h = (h.0, (h.1.0, (h.1.1.0, below_left h.1.0 h.1.1.1)))
     stage_left Failed traffic h = tt
+    stage_left Own traffic h = h
 
     module _ (stage : BootStage) (requests : List Waiting) (wire : Option Slot) where
       abbrev Gone : Type 0
@@ -331,6 +335,7 @@ module _ (image : Image) (node : ℕ) where
           (h.0, (h.1.0, told_truth j client h.0 h.1.0 h.1.1.0 h.1.1.1))
       stage_told Configured h = absurd h.0
       stage_told Failed h = tt
+      stage_told Own h = absurd h
 
     module _ (stage : BootStage) (requests : List Waiting) where
       abbrev Answered : Type 0

@@ -20,7 +20,8 @@ use Rattle.image_parts.specs.declared.part.Part.TheVariants as part
 use Rattle.image_parts.specs.declared.roster.Roster.{Roster}
 use Rattle.network_laws.specs.Written.{Written}
 use Rattle.network_laws.specs.Exchanges.{Exchanges, GivesBelow, HoldsBelow, IsAsStage, IsBooting, IsExchanging}
-use Rattle.network_laws.specs.Files.{Configures, HasData, HasConfigured, IsExcepted, IsUp}
+use Rattle.image_parts.specs.Configured.{Configures}
+use Rattle.network_laws.specs.Files.{HasData, HasConfigured, IsExcepted, IsUp}
 use Rattle.network_laws.specs.Marks.{MarkedEntries, after_writes, is_marking, is_write_of, marks_at, marked_after}
 use Rattle.network_laws.proofs.GoodLemmas.{IsGood}
 use Rattle.network_laws.proofs.MarkLemmas.{after_told, itself, told, told-append}

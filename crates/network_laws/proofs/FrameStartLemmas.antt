@@ -21,15 +21,16 @@ use Rattle.can_bus.specs.declared.slot.Slot.{Slot}
 use Rattle.can_bus.proofs.ArbitrationLemmas.{contends_is, manager_contends, none_found, place_within}
 use Rattle.network_laws.specs.Starts.{LeavesItsList, but_for_frames}
 use Rattle.can_bus.proofs.StartLemmas.{node_is}
+use Rattle.can_frame.specs.Senders.{device_sender, manager_sender}
 
 -- ---- the list of one node among the lists of all
 
 abbrev all : ℕ × List Waiting → List Device → List (ℕ × List Waiting)
-all last ds = map (λ (d : Device). (d.number, d.waiting)) ds ++ last ∷ []
+all last ds = map (λ (d : Device). (device_sender d.number, d.waiting)) ds ++ last ∷ []
 
 module _ (last : ℕ × List Waiting) where
   device_is : (ds : List Device) (i : ℕ) → i < length ds
-      → get_or (all last ds) i last ≡ ((device_at ds i).number, (device_at ds i).waiting)
+      → get_or (all last ds) i last ≡ (device_sender (device_at ds i).number, (device_at ds i).waiting)
   device_is [] i h = absurd (omega (arith, h))
   device_is (d ∷ ds) zero h = refl
   device_is (d ∷ ds) (suc i) h = device_is ds i (omega (arith, h))
@@ -39,17 +40,17 @@ module _ (last : ℕ × List Waiting) where
   one_more (d ∷ ds) = let rest = one_more ds in omega (arith, rest)
 
   device_there : (ds : List Device) (i : ℕ) → i < length ds
-      → slice_get (all last ds) i ≡ Some ((device_at ds i).number, (device_at ds i).waiting)
+      → slice_get (all last ds) i ≡ Some (device_sender (device_at ds i).number, (device_at ds i).waiting)
   device_there ds i h =
       let many = one_more ds in
       slice_get-get_or (all last ds) i last (omega (arith, many, h)) ∙ ap Some (device_is ds i h)
 
   device_taken : (ds : List Device) (i : ℕ) (e : Device) → i < length ds
-      → all last (slice_set ds i e) ≡ slice_set (all last ds) i (e.number, e.waiting)
+      → all last (slice_set ds i e) ≡ slice_set (all last ds) i (device_sender e.number, e.waiting)
   device_taken [] i e h = absurd (omega (arith, h))
   device_taken (d ∷ ds) zero e h = refl
   device_taken (d ∷ ds) (suc i) e h =
-      ap (λ (rest : List (ℕ × List Waiting)). (d.number, d.waiting) ∷ rest) (device_taken ds i e (omega (arith, h)))
+      ap (λ (rest : List (ℕ × List Waiting)). (device_sender d.number, d.waiting) ∷ rest) (device_taken ds i e (omega (arith, h)))
 
   last_is : (ds : List Device) → get_or (all last ds) (length ds) last ≡ last
   last_is [] = refl
@@ -62,7 +63,7 @@ module _ (last : ℕ × List Waiting) where
 
   last_taken : (ds : List Device) (next : ℕ × List Waiting) → all next ds ≡ slice_set (all last ds) (length ds) next
   last_taken [] next = refl
-  last_taken (d ∷ ds) next = ap (λ (rest : List (ℕ × List Waiting)). (d.number, d.waiting) ∷ rest) (last_taken ds next)
+  last_taken (d ∷ ds) next = ap (λ (rest : List (ℕ × List Waiting)). (device_sender d.number, d.waiting) ∷ rest) (last_taken ds next)
 
 -- ---- the frame that wins
 
@@ -84,13 +85,13 @@ device_leaves c i ds m found =
     let d = device_at ds i in
     let at = position-Some (contends_with c) ds i (without_power false 0) (sym found) in
     let wins = contends_is c d at.1 in
-    let its : c.node ≡ d.number = node_is d.number d.waiting c wins in
-    let last : ℕ × List Waiting = (m.number, m.waiting) in
+    let its : c.sender ≡ device_sender d.number = node_is (device_sender d.number) d.waiting c wins in
+    let last : ℕ × List Waiting = (manager_sender m.number, m.waiting) in
     record {
       number = i;
       frames = d.waiting;
       its_list = rw its (device_there last ds i at.0);
-      its_place = slice_get-get_or d.waiting c.place _ (place_within d.number d.waiting c wins);
+      its_place = slice_get-get_or d.waiting c.place _ (place_within (device_sender d.number) d.waiting c wins);
       left = rw its (device_taken last ds i (record d { waiting = remove d.waiting c.place }) at.0);
     }
 
@@ -99,14 +100,14 @@ manager_leaves : (c : Contender) (ds : List Device) (m : Manager) → None ≡ s
 unfolding sender_place winner
 manager_leaves c ds m found e =
     let wins = manager_contends ds m c e (none_found (contends_with c) ds (sym found)) in
-    let its : c.node ≡ m.number = node_is m.number m.waiting c wins in
-    let last : ℕ × List Waiting = (m.number, m.waiting) in
+    let its : c.sender ≡ manager_sender m.number = node_is (manager_sender m.number) m.waiting c wins in
+    let last : ℕ × List Waiting = (manager_sender m.number, m.waiting) in
     record {
       number = length ds;
       frames = m.waiting;
       its_list = rw its (last_there last ds);
-      its_place = slice_get-get_or m.waiting c.place _ (place_within m.number m.waiting c wins);
-      left = rw its (last_taken last ds (m.number, remove m.waiting c.place));
+      its_place = slice_get-get_or m.waiting c.place _ (place_within (manager_sender m.number) m.waiting c wins);
+      left = rw its (last_taken last ds (manager_sender m.number, remove m.waiting c.place));
     }
 
 either_leaves : (c : Contender) (o : Option ℕ) (ds : List Device) (m : Manager) → o ≡ sender_place c ds
@@ -131,18 +132,18 @@ sent_is c (Some i) ds m = refl
 
 starts_with : (t : ℕ) (s : Bus) (c : Contender) (o : Option ℕ) → winner s.devices s.manager ≡ Some c
     → Leaves c o s.devices s.manager
-    → StartsWith t s (slot_of t s.slots s.bit_time c.node (winning_frame c o s.devices s.manager)) c
+    → StartsWith t s (slot_of t s.slots s.bit_time c.sender (winning_frame c o s.devices s.manager)) c
     (sent_waiting c o s.devices s.manager)
 starts_with t s c o e leaves = record {
   wins = wins s.devices s.manager c e;
   waits = (
     leaves.frames,
     (
-      is_there (waiting_lists s.devices s.manager) leaves.number (c.node, leaves.frames) leaves.its_list,
+      is_there (waiting_lists s.devices s.manager) leaves.number (c.sender, leaves.frames) leaves.its_list,
       leaves.its_place,
     ),
   );
-  is = ap (slot_of t s.slots s.bit_time c.node) (sent_is c o s.devices s.manager);
+  is = ap (slot_of t s.slots s.bit_time c.sender) (sent_is c o s.devices s.manager);
 }
 
 nothing_starts : (wire : Option Slot) (slot : Slot) → wire ≡ None → wire ≡ Some slot → None ≡ Some slot

@@ -12,12 +12,13 @@ use Rattle.network_laws.proofs.NodeLemmas.{command_leaves}
 use Rattle.network_laws.proofs.OwnLemmas.{command_owns, frame_owns as manager_frame_owns}
 use Rattle.network_laws.proofs.OwnLemmas.{frame_stays as manager_frame_stays, timers_own, timers_stay}
 use Rattle.network_laws.specs.Requests.{HasManagerFrames as ManagerOwns, StaysManager, requests_to}
-use Rattle.bus_devices.proofs.EventLemmas.{happens_nmt, happens_set, outcome_events, outcome_power}
+use Rattle.bus_devices.proofs.EventLemmas.{happens_nmt, happens_set, outcome_events}
 use Rattle.bus_devices.specs.Events.{after_event, after_events_at, after_power_at, after_set_at}
 use Rattle.bus_devices.specs.Places.{device_at}
 use Rattle.can_bus.specs.Bus.{delivered_of, manager_after_slot}
 use Rattle.can_bus.specs.declared.slot.Slot.{Slot}
 use Rattle.co_device.specs.Device.{Device, after_instant, after_power, after_set, without_power}
+use Rattle.can_frame.specs.Senders.{device_sender, manager_sender}
 use Rattle.co_device.specs.Receiving.{after_frame}
 use Rattle.image_parts.specs.Contents.{Content, Image}
 use Rattle.image_parts.specs.Images.{IsRoster}
@@ -40,6 +41,7 @@ use Rattle.network_laws.proofs.MarkLemmas.{after_told, one_of_them, told}
 use Rattle.network_laws.proofs.Others.{frame_owns, frame_writes_own, instant_owns, power_owns, set_leaves, set_owns}
 use Rattle.network_laws.proofs.Others.{set_writes_own, switch_does}
 use Rattle.network_laws.proofs.RosterLemmas.{IsAt, IsOf, IsOwned, device_numbers, kind_of, stands_at}
+use Rattle.network_laws.proofs.SwitchLemmas.{switch_holds}
 use Rattle.network_laws.proofs.TurnLemmas.{Ex, boot_left, booted_exchanges, dark_exchanges, delivery_turns}
 use Rattle.network_laws.proofs.TurnLemmas.{device_runs, manager_runs}
 use Rattle.nmt_boot.specs.Manager.{Manager, timers, with_command}
@@ -272,7 +274,8 @@ module _ (image : Image) (roster : Roster) (is : IsRoster roster) where
         (outcome (after_event t step (ds, m)) image).1 wire
     event_good (Set node index sub bytes) g =
         rw (happens_set t ds m node index sub bytes) (set_good node (index, sub) bytes g)
-    event_good (Power node on) g = rw (outcome_power t ds m node on image) (power_good node on g)
+    event_good (Power node on) g =
+        switch_holds t ds m node on image (λ r. Good marks r.0 r.1 wire) g (power_good node on g)
     event_good (Nmt node c) g = rw (happens_nmt t ds m node c) (command_good node c g)
 
   pub after-append : (marks : MarkedEntries) (one other : List Written)
@@ -321,7 +324,7 @@ module _ (image : Image) (roster : Roster) (is : IsRoster roster) where
       heard = (outcome (manager_after_slot t (Some slot) m) image).0
 
       heard_own : (d : Device) → AreOf d.number (written_by_frame image t slot d)
-      heard_own d = by (d.number == slot.sender)
+      heard_own d = by (device_sender d.number == slot.sender)
         where
           by : (b : Bool) → AreOf d.number (if b then [] else writes_of_frame image t slot.frame d)
           by true = All-nil (λ (w : Written). w.node ≡ d.number)
@@ -329,7 +332,7 @@ module _ (image : Image) (roster : Roster) (is : IsRoster roster) where
 
       hears_same : (d : Device) → (outcome (hears t (delivered_of slot) d) image).number ≡ d.number
       unfolding hears
-      hears_same d = by (d.number == slot.sender)
+      hears_same d = by (device_sender d.number == slot.sender)
         where
           by : (b : Bool) → (outcome (if b then Answer d else after_frame t slot.frame d) image).number ≡ d.number
           by true = refl
@@ -337,7 +340,7 @@ module _ (image : Image) (roster : Roster) (is : IsRoster roster) where
 
       hears_has : (d : Device) → DeviceOwns d → DeviceOwns (outcome (hears t (delivered_of slot) d) image)
       unfolding hears
-      hears_has d h = by (d.number == slot.sender)
+      hears_has d h = by (device_sender d.number == slot.sender)
         where
           by : (b : Bool) → DeviceOwns (outcome (if b then Answer d else after_frame t slot.frame d) image)
           by true = h
@@ -345,7 +348,7 @@ module _ (image : Image) (roster : Roster) (is : IsRoster roster) where
 
       manager_same : StaysManager m heard
       unfolding manager_after_slot
-      manager_same = by (m.number == slot.sender)
+      manager_same = by (manager_sender m.number == slot.sender)
         where
           by : (b : Bool) → StaysManager m
               (outcome (if b then Answer (m, []) else manager.after_frame t slot.frame m) image).0
@@ -354,7 +357,7 @@ module _ (image : Image) (roster : Roster) (is : IsRoster roster) where
 
       manager_has : ManagerOwns m → ManagerOwns heard
       unfolding manager_after_slot
-      manager_has h = by (m.number == slot.sender)
+      manager_has h = by (manager_sender m.number == slot.sender)
         where
           by : (b : Bool) → ManagerOwns
               (outcome (if b then Answer (m, []) else manager.after_frame t slot.frame m) image).0
@@ -376,6 +379,6 @@ module _ (image : Image) (roster : Roster) (is : IsRoster roster) where
           (λ d h. instant_owns t (outcome (hears t (delivered_of slot) d) image) (hears_has d h))
           runs_same (λ h. timers_own t heard (manager_has h)) (λ h. tt)
           (λ i n at o after now h.
-          delivery_turns image n roster at.is_number at.apart t (marks n) after (device_at ds i) m i slot at.number
-          at.listed at.alone o.manager now
-          (kind_of roster n at.is_number at.apart slot is.manager o.wire_frame) h) g
+          delivery_turns image n roster at.is_number t (marks n) after (device_at ds i) m i slot at.number at.listed
+          at.alone o.manager at.unasked now
+          (kind_of roster n at.is_number at.others slot is.manager o.wire_frame) h) g

@@ -9,7 +9,8 @@ use Rattle.image_parts.specs.declared.part.Part.TheVariants.{Boot}
 use Rattle.concise_dcf.proofs.Entries.{one_list}
 use Rattle.concise_dcf.specs.Concise.{IsTextOf}
 use Rattle.concise_dcf.specs.declared.write.Write.{Write}
-use Rattle.network_laws.specs.Files.{Configures, IsGivenBy, IsLastIn, HasWritesUpTo, IsWrite}
+use Rattle.image_parts.specs.Configured.{Configures, HasWritesUpTo, IsWrite}
+use Rattle.network_laws.specs.Files.{IsGivenBy, IsLastIn}
 use Rattle.concise_dcf.specs.Writes.{place_of}
 use Rattle.network_laws.proofs.ListLemmas.{below_next, place_or_not}
 

@@ -5,6 +5,7 @@ pub mod SyncLemmas
 pub mod AppliedLemmas
 pub mod FailureLemmas
 pub mod DarkLemmas
+pub mod SwitchLemmas
 pub mod ThroughLemmas
 pub mod BeatLemmas
 pub mod StartedLemmas
@@ -29,6 +30,9 @@ pub mod RunLemmas
 pub mod StampLemmas
 pub mod FileLemmas
 pub mod NoteLemmas
+pub mod OwnValueLemmas
+pub mod OwnFilesLemmas
+pub mod NodeStartLemmas
 pub mod LastLemmas
 pub mod AnswerLemmas
 pub mod RequestLaws
@@ -41,5 +45,6 @@ pub mod FrameLemmas
 pub mod OwnLaws
 pub mod WaitingLemmas
 pub mod NodeLemmas
+pub mod OwnStageLemmas
 pub mod OwnLemmas
 pub mod StepLemmas

@@ -23,19 +23,19 @@ use Rattle.node_boot.specs.declared.boot_stage.BootStage.TheVariants.{Failed}
 use Rattle.node_boot.specs.declared.boot_step.BootStep.{BootStep}
 use Rattle.nmt_boot.proofs.EventLemmas.{answered_outcome, boots_outcome}
 use Rattle.nmt_boot.proofs.PeriodicLemmas.{queue_has}
-use Rattle.nmt_boot.specs.Manager.{Manager, after_boot_up, after_frame, after_sdo_frame, after_step, has_boot_up_byte}
+use Rattle.nmt_boot.specs.Manager.{Manager, after_boot_at, after_boot_up, after_frame, after_own_boot_up, after_sdo_frame, after_step, has_boot_up_byte}
 use Rattle.nmt_boot.specs.Periodic.{frame_of, purpose_of, queue_after}
 use Rattle.nmt_boot.specs.declared.periodic.Periodic.{Periodic}
 use Rattle.nmt_boot.specs.declared.periodic_message.PeriodicMessage.{PeriodicMessage}
 use Rattle.nmt_boot.specs.declared.periodic_message.PeriodicMessage.TheVariants.{Heartbeat, Time, Sync}
 use Rattle.nmt_boot.specs.Startup.{nmt_frame}
-use Rattle.manager_nodes.specs.Table.{is_from, no_node, node_after, node_at, place_of}
+use Rattle.manager_nodes.specs.Table.{is_from, is_own, no_node, node_after, node_at, place_of}
 use Rattle.manager_nodes.specs.Table.{queue_after_time_out, queue_after_time_outs, timed_out, with_stage}
 use Rattle.nmt_boot.specs.Manager.{time_outs, timers, with_command}
 use Rattle.manager_nodes.specs.declared.booting.Booting.{Booting}
 use Rattle.network_laws.specs.Requests.{IsAlone, LeavesBoot, TakesStep, requests_to}
 use Rattle.can_frame.specs.ErrorControl.{IsBootUp}
-use Rattle.network_laws.proofs.WaitingLemmas.{latest_leaves, other_more, other_step, others_dropped, own_dropped, own_step}
+use Rattle.network_laws.proofs.WaitingLemmas.{latest_leaves, other_more, other_step, others_dropped, own_dropped, own_start_more, own_step}
 use Rattle.network_laws.proofs.WaitingLemmas.{requests-append}
 use Rattle.nmt_boot.proofs.TableLemmas.{sum_is}
 use Rattle.network_laws.proofs.StageLemmas.{is_boot}
@@ -106,26 +106,48 @@ module _ (m : Manager) (i : ℕ) (own : IsAlone m.nodes i) where
     abbrev Begun : Manager → Type 0
     Begun after = TakesStep i (outcome (boot_nmt_slave (t + m.timeout) n) image) [] m after
 
-    begun_at : (k : ℕ) → k ≡ i → frame.id ≡ error_control_id n
-        → Begun (outcome (after_boot_up t (Some k) m) image).0
-    unfolding after_boot_up
-    begun_at k here e =
-        rw (here, boots_outcome t i m image)
-        (steps_here (outcome (boot_nmt_slave (t + m.timeout) n) image) (without_unwanted (SdoOf n) m.waiting) []
-        (own_dropped n m.waiting))
-
-    pub boot_begins : IsBootUp n frame → Begun (outcome (after_frame t frame m) image).0
+    -- the place of the node is found by its boot-up message
+    boot_finds : IsBootUp n frame → (P : Manager → Type 0) → P (outcome (after_boot_up t (Some i) m) image).0
+        → P (outcome (after_frame t frame m) image).0
     unfolding after_frame
-    boot_begins b = rw (boot_bytes frame.bytes b.1) (by (place_of (error_control_id 0) frame.id m.nodes) refl)
+    boot_finds b P h = rw (boot_bytes frame.bytes b.1) (by (place_of (error_control_id 0) frame.id m.nodes) refl)
       where
         by : (o : Option ℕ) → place_of (error_control_id 0) frame.id m.nodes ≡ o
-            → Begun (outcome (after_boot_up t o m) image).0
+            → P (outcome (after_boot_up t o m) image).0
         by None e = absurd (found_one (error_control_id 0) frame.id m.nodes i own.within (sym b.0) e)
         by (Some k) e =
             let id = found_is (error_control_id 0) frame.id m.nodes k e in
             let its = b.0 in
             let same : (node_at m.nodes k).number ≡ n = omega (arith, id, its) in
-            begun_at k (own.alone k (found_within (error_control_id 0) frame.id m.nodes k e) same) b.0
+            rw (own.alone k (found_within (error_control_id 0) frame.id m.nodes k e) same) h
+
+    -- a node that isn't the manager's own begins its boot
+    begun : is_own (node_at m.nodes i).stage ≡ false → Begun (outcome (after_boot_up t (Some i) m) image).0
+    unfolding after_boot_up
+    begun other =
+        rw (other, boots_outcome t i m image)
+        (steps_here (outcome (boot_nmt_slave (t + m.timeout) n) image) (without_unwanted (SdoOf n) m.waiting) []
+        (own_dropped n m.waiting))
+
+    pub boot_begins : is_own (node_at m.nodes i).stage ≡ false → IsBootUp n frame
+        → Begun (outcome (after_frame t frame m) image).0
+    boot_begins other b = boot_finds b Begun (begun other)
+
+    -- and of the manager's own nothing is booted
+    own_leaves : (k : ℕ) → LeavesBoot i m (after_own_boot_up k m)
+    unfolding after_own_boot_up
+    own_leaves k = record {
+      node = refl;
+      requests = own_start_more n m.startup (node_at m.nodes k).number m.waiting;
+    }
+
+    greeted : is_own (node_at m.nodes i).stage ≡ true → LeavesBoot i m (outcome (after_boot_up t (Some i) m) image).0
+    unfolding after_boot_up
+    greeted itself = rw itself (own_leaves i)
+
+    pub own_greeted : is_own (node_at m.nodes i).stage ≡ true → IsBootUp n frame
+        → LeavesBoot i m (outcome (after_frame t frame m) image).0
+    own_greeted itself b = boot_finds b (LeavesBoot i m) (greeted itself)
 
     -- ---- any other frame
 
@@ -141,7 +163,7 @@ module _ (m : Manager) (i : ℕ) (own : IsAlone m.nodes i) where
           → has_boot_up_byte frame.bytes ≡ true → Goes (outcome (after_boot_up t o m) image).0
       unfolding after_boot_up
       by_boot_up None e b = inr stays
-      by_boot_up (Some k) e b = rw (boots_outcome t k m image) (by (cases_eq i k))
+      by_boot_up (Some k) e b = either (is_own (node_at m.nodes k).stage)
         where
           within : k < length m.nodes
           within = found_within (error_control_id 0) frame.id m.nodes k e
@@ -163,6 +185,11 @@ module _ (m : Manager) (i : ℕ) (own : IsAlone m.nodes i) where
           by (inr other) =
               inr (steps_elsewhere k within other _ _
               (others_dropped n (node_at m.nodes k).number (apart k within other) m.waiting))
+
+          either : (b : Bool)
+              → Goes (outcome (if b then Answer (after_own_boot_up k m, []) else after_boot_at t k m) image).0
+          either true = inr (own_leaves k)
+          either false = rw (boots_outcome t k m image) (by (cases_eq i k))
 
       by_answer : (o : Option ℕ) → place_of (sdo_answer_id 0) frame.id m.nodes ≡ o
           → Goes (outcome (after_sdo_frame t frame.bytes o m) image).0

@@ -1,7 +1,7 @@
 -- What a node was noted for: a node that is noted configured is so after the instant.
 use Rattle.std.proofs.Common.{◌≡◌, ℕ, ◌+◌, ◌<◌, Bool, true, false, List, [], ◌∷◌, ◌++◌, Option, Some, None}
 use Rattle.std.proofs.Common.{◌⊎◌, inl, inr, refl, sym, ap, ◌∙◌, subst, arith, length, map}
-use Rattle.std.specs.Prelude.{Contains, if◌then◌else◌}
+use Rattle.std.specs.Prelude.{◌==◌, Contains, if◌then◌else◌}
 use Rattle.std.proofs.lemmas.List.{get_or_default, get_or-map, get_or-set_same, length-map, length-set}
 use Rattle.std.proofs.lemmas.List.Elements.{Contains-append_cases}
 use Rattle.std.proofs.lemmas.List.Quantifiers.{position-Some}
@@ -22,6 +22,7 @@ use Rattle.can_bus.proofs.ManagerLemmas.{outcome_managed}
 use Rattle.can_bus.proofs.NodeLemmas.{outcome_nodes}
 use Rattle.can_frame.specs.Frames.{BaseFrame}
 use Rattle.can_frame.specs.Identifiers.{error_control_id, sdo_answer_id}
+use Rattle.can_frame.specs.Senders.{manager_sender}
 use Rattle.can_frame.specs.declared.waiting.Waiting.{Waiting}
 use Rattle.image_parts.specs.Contents.{Image, identity_of, write_of}
 use Rattle.image_parts.specs.declared.identity.Identity.{Identity}
@@ -40,7 +41,7 @@ use Rattle.node_boot.specs.Boot.{after_compare, after_write, boot_failed, boot_n
 use Rattle.node_boot.specs.Boot.{comparison_started, download_configuration, is_as_expected, next_compared, sdo_answer}
 use Rattle.node_boot.specs.Boot.{write_started}
 use Rattle.node_boot.specs.declared.boot_stage.BootStage.{BootStage}
-use Rattle.node_boot.specs.declared.boot_stage.BootStage.TheVariants.{Unseen, Comparing, Writing, Configured, Failed}
+use Rattle.node_boot.specs.declared.boot_stage.BootStage.TheVariants.{Unseen, Comparing, Writing, Configured, Failed, Own}
 use Rattle.node_boot.specs.declared.boot_step.BootStep.{BootStep}
 use Rattle.node_boot.specs.declared.note.Note.{Note}
 use Rattle.node_boot.specs.declared.note_kind.NoteKind.TheVariants as kind
@@ -74,7 +75,7 @@ module _ (image : Image) (deadline node : ℕ) where
       by None = download_tells 0
       by (Some left) = compares_tell expected left
 
-  boot_tells : Tells (outcome (boot_nmt_slave deadline node) image)
+  pub boot_tells : Tells (outcome (boot_nmt_slave deadline node) image)
   unfolding boot_nmt_slave
   boot_tells = checks_tell (identity_of (image (Expect node))) 0
 
@@ -99,7 +100,7 @@ module _ (image : Image) (deadline node : ℕ) where
   written_tells old j left (Some (progress.Read bytes)) e = absurd cc
   written_tells old j left (Some (progress.Failed abort frame)) e = absurd cc
 
-  answer_tells : (stage : BootStage) (answer : List ℕ)
+  pub answer_tells : (stage : BootStage) (answer : List ℕ)
       → Tells (outcome (sdo_answer deadline node stage answer) image)
   unfolding sdo_answer
   answer_tells Unseen answer e = absurd cc
@@ -109,6 +110,7 @@ module _ (image : Image) (deadline node : ℕ) where
       written_tells old j (after_answer transfer answer).stage (after_answer transfer answer).progress e
   answer_tells Configured answer e = absurd cc
   answer_tells Failed answer e = absurd cc
+  answer_tells Own answer e = absurd cc
 
 -- ---- the manager
 
@@ -158,7 +160,8 @@ module _ (node : ℕ) where
     frame_has =
         received_holds image t frame m (λ r read. Contains r.1 (configured_note node) → Has node r.0)
         (λ h. absurd (none_in (configured_note node) h))
-        (λ i e h. begun_has i (found_within (error_control_id 0) frame.id m.nodes i e) _ _
+        (λ i e o h. absurd (none_in (configured_note node) h))
+        (λ i e o h. begun_has i (found_within (error_control_id 0) frame.id m.nodes i e) _ _
         (boot_tells image (t + m.timeout) (node_at m.nodes i).number) h)
         (λ i e h. stepped_has m i (found_within (sdo_answer_id 0) frame.id m.nodes i e) _ m.waiting
         (answer_tells image (t + m.timeout) (node_at m.nodes i).number (node_at m.nodes i).stage frame.bytes)
@@ -169,7 +172,7 @@ module _ (node : ℕ) where
       → Has node (outcome (manager_after_slot t slot m) image).0
   unfolding manager_after_slot
   slot_has image t None m h = absurd (none_in (configured_note node) h)
-  slot_has image t (Some slot) m h = by (Rattle.std.specs.Prelude.nat_eq m.number slot.sender) h
+  slot_has image t (Some slot) m h = by (manager_sender m.number == slot.sender) h
     where
       by : (b : Bool)
           → Contains (outcome (if b then Answer (m, []) else after_frame t slot.frame m) image).1 (configured_note node)

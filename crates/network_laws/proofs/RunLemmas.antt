@@ -6,10 +6,10 @@ use Rattle.std.specs.List.{AllByRecursion}
 use Rattle.std.proofs.lemmas.List.{get_or-map, length-map}
 use Rattle.std.proofs.lemmas.List.Elements.{All-from_recursion}
 use Rattle.image_parts.specs.Asking.{outcome}
-use Rattle.network_laws.proofs.OwnLemmas.{power_owns as manager_power_owns}
-use Rattle.network_laws.specs.Requests.{numbers_of, requests_to}
+use Rattle.network_laws.proofs.OwnLemmas.{first_numbers, power_owns as manager_power_owns}
+use Rattle.network_laws.specs.Requests.{requests_to}
 use Rattle.cia301.specs.Limits.{IsNodeNumber}
-use Rattle.manager_nodes.specs.Table.{node_at, unseen_node}
+use Rattle.manager_nodes.specs.Table.{node_at}
 use Rattle.bus_devices.specs.Places.{device_at}
 use Rattle.bus_devices.specs.Steps.{steps_due}
 use Rattle.can_bus.proofs.SpanLemmas.{bus_first, bus_next}
@@ -26,7 +26,7 @@ use Rattle.can_bus.proofs.TimeLemmas.{goes_on, starts}
 use Rattle.can_bus.proofs.WindowLemmas.{outcome_events_run}
 use Rattle.co_device.specs.Device.{Device, after_instant, after_power, without_power}
 use Rattle.image_parts.specs.Contents.{Image, roster_of}
-use Rattle.image_parts.specs.Images.{IsImage, IsNode, IsRoster}
+use Rattle.image_parts.specs.Images.{IsImage, IsRoster}
 use Rattle.image_parts.specs.declared.part.Part.TheVariants as part
 use Rattle.image_parts.specs.declared.roster.Roster.{Roster}
 use Rattle.device_agenda.specs.Agenda.{hears}
@@ -173,10 +173,6 @@ module _ (image : Image) (roster : Roster) (is : IsRoster roster) where
   dark_numbers [] = refl
   dark_numbers (n ∷ numbers) = ap (λ (ns : List ℕ). n ∷ ns) (dark_numbers numbers)
 
-  unseen_numbers : (numbers : List ℕ) → numbers_of (map unseen_node numbers) ≡ numbers
-  unseen_numbers [] = refl
-  unseen_numbers (n ∷ numbers) = ap (λ (ns : List ℕ). n ∷ ns) (unseen_numbers numbers)
-
   abbrev switched : Device → Device
   switched d = outcome (after_power true 0 d) image
 
@@ -193,10 +189,6 @@ module _ (image : Image) (roster : Roster) (is : IsRoster roster) where
   dark_own : (numbers : List ℕ) → AllByRecursion DeviceOwns (dark_devices numbers)
   dark_own [] = tt
   dark_own (n ∷ numbers) = (dark_owns false n, dark_own numbers)
-
-  node_numbers : (ns : List ℕ) → AllByRecursion (IsNode roster.manager) ns → AllByRecursion IsNodeNumber ns
-  node_numbers [] h = tt
-  node_numbers (n ∷ ns) h = ((h.0.0, h.0.1), node_numbers ns h.1)
 
   abbrev all_dark : List Device → Type 0
   all_dark ds = AllByRecursion (λ (d : Device). d.has_power ≡ false) ds
@@ -232,11 +224,11 @@ module _ (image : Image) (roster : Roster) (is : IsRoster roster) where
   unfolding manager_at_power_on
   first_manager = record {
     devices = on_numbers (dark_devices roster.nodes) ∙ dark_numbers roster.nodes;
-    nodes = unseen_numbers roster.nodes;
+    nodes = first_numbers roster.manager roster.nodes;
     manager = refl;
     device_frames = on_owns (dark_devices roster.nodes) (dark_own roster.nodes);
     manager_frames = manager_power_owns roster
-        (All-from_recursion IsNodeNumber roster.nodes (node_numbers roster.nodes is.nodes));
+        (All-from_recursion IsNodeNumber roster.nodes is.nodes);
     wire_frame = tt;
   }
 

@@ -5,7 +5,7 @@ use Rattle.std.specs.Prelude.{◌||◌, ◌==◌, remove}
 use Rattle.std.proofs.lemmas.Bool.{false≢true}
 use Rattle.std.proofs.lemmas.Bool.Decides.{nat_tests}
 use Rattle.std.proofs.lemmas.List.{append-nil}
-use Rattle.network_laws.specs.Requests.{IsManagersFrame, requests_to}
+use Rattle.network_laws.specs.Requests.{AreOthers, IsManagersFrame, requests_to}
 use Rattle.can_frame.specs.ErrorControl.{IsBootUp}
 use Rattle.cia301.specs.Limits.{IsNodeNumber}
 use Rattle.network_laws.specs.Boots.{IsBootUpOf}
@@ -187,19 +187,20 @@ module _ (node : ℕ) (is : IsNodeNumber node) where
     device_foreign Time frame h apart = absurd h
     device_foreign Nmt frame h apart = absurd h
 
-    pub manager_foreign : (p : Purpose) (frame : BaseFrame) → IsManagersFrame k p frame → k ≢ node
-        → is_unwanted (SdoOf node) p ≡ false → IsForeign frame
-    manager_foreign BootUp frame h apart other = control_foreign frame h.0 (of_another frame h.0 apart)
-    manager_foreign Heartbeat frame h apart other = control_foreign frame h (of_another frame h apart)
-    manager_foreign (Tpdo j) frame h apart other = absurd h
-    manager_foreign (Sdo j) frame h apart other = by (cases_eq node j)
+    pub manager_foreign : (nodes : List ℕ) → (AreOthers k nodes → node ≢ k) → (p : Purpose) (frame : BaseFrame)
+        → IsManagersFrame k nodes p frame → is_unwanted (SdoOf node) p ≡ false → IsForeign frame
+    manager_foreign nodes differs BootUp frame h other =
+        control_foreign frame h.0.0 (of_another frame h.0.0 (λ e. differs h.1 (sym e)))
+    manager_foreign nodes differs Heartbeat frame h other = control_foreign frame h.0 (λ b. h.1 b.1)
+    manager_foreign nodes differs (Tpdo j) frame h other = absurd h
+    manager_foreign nodes differs (Sdo j) frame h other = by (cases_eq node j)
       where
         by : (node ≡ j) ⊎ (node ≢ j) → IsForeign frame
         by (inl e) = absurd (false≢true (sym other ∙ ap (λ x. node == x) (sym e) ∙ number_itself node))
         by (inr e) = record {
-          no_request = λ f. e (same h.1 f);
-          no_answer = λ f. answer h.1 f;
-          no_boot_up = λ b. control h.1 h.0 b.0;
+          no_request = λ f. e (same h.1.1 f);
+          no_answer = λ f. answer h.1.1 f;
+          no_boot_up = λ b. control h.1.1 h.0 b.0;
         }
           where
             same : frame.id ≡ sdo_request_id j → frame.id ≡ sdo_request_id node → node ≡ j
@@ -210,10 +211,10 @@ module _ (node : ℕ) (is : IsNodeNumber node) where
 
             control : frame.id ≡ sdo_request_id j → IsNodeNumber j → frame.id ≡ error_control_id node → ⊥
             control a n b = let top = n.1 in omega (arith, a, b, top)
-    manager_foreign Emergency frame h apart other = absurd h
-    manager_foreign Sync frame h apart other = low_foreign frame sync_id h (omega arith)
-    manager_foreign Time frame h apart other = low_foreign frame time_id h (omega arith)
-    manager_foreign Nmt frame h apart other = low_foreign frame nmt_id h (omega arith)
+    manager_foreign nodes differs Emergency frame h other = absurd h
+    manager_foreign nodes differs Sync frame h other = low_foreign frame sync_id h (omega arith)
+    manager_foreign nodes differs Time frame h other = low_foreign frame time_id h (omega arith)
+    manager_foreign nodes differs Nmt frame h other = low_foreign frame nmt_id h (omega arith)
 
 -- ---- a frame that is none of the exchange starts
 

@@ -8,6 +8,7 @@ use Rattle.std.proofs.lemmas.List.{get_or-set_other, get_or-set_same}
 use Rattle.std.proofs.lemmas.List.Quantifiers.{position-Some}
 use Rattle.image_parts.specs.Asking.{Answer, outcome}
 use Rattle.can_frame.specs.Identifiers.{error_control_id, sdo_answer_id}
+use Rattle.can_frame.specs.Senders.{manager_sender}
 use Rattle.image_parts.specs.Contents.{Image, identity_of, write_of}
 use Rattle.image_parts.specs.declared.identity.Identity.{Identity}
 use Rattle.image_parts.specs.declared.part.Part.TheVariants.{Boot, Expect}
@@ -20,10 +21,11 @@ use Rattle.node_boot.specs.Boot.{after_write, boot_nmt_slave, check_identity, co
 use Rattle.node_boot.specs.Boot.{deadline_of, download_configuration, is_at, is_timed_out}
 use Rattle.node_boot.specs.Boot.{compared_next, next_compared, sdo_answer, sdo_time_out, write_started}
 use Rattle.node_boot.specs.declared.boot_stage.BootStage.{BootStage}
-use Rattle.node_boot.specs.declared.boot_stage.BootStage.TheVariants.{Unseen, Comparing, Writing, Configured, Failed}
+use Rattle.node_boot.specs.declared.boot_stage.BootStage.TheVariants.{Unseen, Comparing, Writing, Configured, Failed, Own}
 use Rattle.nmt_boot.proofs.EventLemmas.{answered_outcome, boots_outcome}
-use Rattle.nmt_boot.specs.Manager.{Manager, after_boot_up, after_frame, after_sdo_frame, has_boot_up_byte, time_outs, timers}
-use Rattle.manager_nodes.specs.Table.{is_from, no_node, node_after}
+use Rattle.nmt_boot.specs.Manager.{Manager, after_boot_at, after_boot_up, after_frame, after_own_boot_up, after_sdo_frame, has_boot_up_byte}
+use Rattle.nmt_boot.specs.Manager.{time_outs, timers}
+use Rattle.manager_nodes.specs.Table.{is_from, is_own, no_node, node_after}
 use Rattle.manager_nodes.specs.Table.{node_at, place_of}
 use Rattle.manager_nodes.specs.declared.booting.Booting.{Booting}
 use Rattle.can_bus.specs.Bus.{Bus, ended_slot, instant, manager_after_slot}
@@ -182,12 +184,17 @@ module _ (image : Image) (t i : ℕ) (heard : Option Slot) (n : Booting) (P : Bo
 
       by_boot_up : (place : Option ℕ) → place_of (error_control_id 0) slot.frame.id m.nodes ≡ place
           → has_boot_up_byte slot.frame.bytes ≡ true → Holds (outcome (after_boot_up t place m) image).0
-      unfolding after_boot_up
+      unfolding after_boot_up after_own_boot_up
       by_boot_up None e b = stays
-      by_boot_up (Some k) e b =
-          rw (boots_outcome t k m image)
-          (turns_to k _ (found_within (error_control_id 0) slot.frame.id m.nodes k e)
-          (λ here. rw (number_is k here) (boots (boot_of k e b here) (t + m.timeout))))
+      by_boot_up (Some k) e b = either (is_own (node_at m.nodes k).stage)
+        where
+          either : (x : Bool)
+              → Holds (outcome (if x then Answer (after_own_boot_up k m, []) else after_boot_at t k m) image).0
+          either true = stays
+          either false =
+              rw (boots_outcome t k m image)
+              (turns_to k _ (found_within (error_control_id 0) slot.frame.id m.nodes k e)
+              (λ here. rw (number_is k here) (boots (boot_of k e b here) (t + m.timeout))))
 
       by_answer : (place : Option ℕ) → place_of (sdo_answer_id 0) slot.frame.id m.nodes ≡ place
           → Holds (outcome (after_sdo_frame t slot.frame.bytes place m) image).0
@@ -222,7 +229,7 @@ module _ (image : Image) (t i : ℕ) (heard : Option Slot) (n : Booting) (P : Bo
     hears_slot : (slot : Option Slot) → heard ≡ slot → Holds (outcome (manager_after_slot t slot m) image).0
     unfolding manager_after_slot
     hears_slot None e = stays
-    hears_slot (Some slot) e = by (m.number == slot.sender)
+    hears_slot (Some slot) e = by (manager_sender m.number == slot.sender)
       where
         by : (b : Bool) → Holds (outcome (if b then Answer (m, []) else after_frame t slot.frame m) image).0
         by true = stays
@@ -308,6 +315,7 @@ module _ (image : Image) (t : ℕ) (s : Bus) (i : ℕ) where
     unmoved (Writing place transfer deadline) e later number answer = absurd cc
     unmoved Configured e later number answer = refl
     unmoved Failed e later number answer = refl
+    unmoved Own e later number answer = refl
 
     never : (stage : BootStage) → deadline_of stage ≡ None → is_timed_out t stage ≡ true → ⊥
     never stage e h = false≢true (ap (is_at t) (sym e) ∙ h)

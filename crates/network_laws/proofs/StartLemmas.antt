@@ -8,7 +8,7 @@ use Rattle.std.proofs.lemmas.List.{get_or-map, get_or-set_other, get_or-set_same
 use Rattle.std.proofs.lemmas.List.Elements.{All-get_or}
 use Rattle.std.proofs.lemmas.List.Quantifiers.{position-Some}
 use Rattle.network_laws.proofs.OwnLemmas.{sent_owns as manager_sent_owns}
-use Rattle.network_laws.specs.Requests.{IsManagersFrame, requests_to}
+use Rattle.network_laws.specs.Requests.{IsManagersFrame, numbers_of, requests_to}
 use Rattle.bus_devices.specs.Senders.{contends_with, sender_place}
 use Rattle.bus_devices.specs.Places.{device_at}
 use Rattle.can_bus.specs.Bus.{Bus, after_arbitration, after_start_on, slot_of, winner, with_slot_of}
@@ -18,6 +18,7 @@ use Rattle.can_bus.proofs.ArbitrationLemmas.{contends_is, manager_contends, none
 use Rattle.can_frame.specs.Frames.{BaseFrame}
 use Rattle.can_frame.specs.declared.slot_rule.SlotRule.{SlotRule}
 use Rattle.can_frame.specs.Identifiers.{error_control_id, sdo_answer_id, sdo_request_id}
+use Rattle.can_frame.specs.Senders.{device_sender, manager_sender}
 use Rattle.can_frame.specs.WaitingFrames.{is_unwanted, waiting}
 use Rattle.can_frame.specs.Winner.{IsWinner, contenders_of, is_below, winner_of}
 use Rattle.can_frame.specs.declared.contender.Contender.{Contender}
@@ -28,7 +29,7 @@ use Rattle.can_frame.specs.declared.waiting.Waiting.{Waiting}
 use Rattle.can_frame.proofs.WinnerLemmas.{contender_at, length-contenders_of, winner_of-wins}
 use Rattle.co_device.specs.Device.{Device, without_power}
 use Rattle.image_parts.specs.Contents.{Image}
-use Rattle.image_parts.specs.Images.{IsNode, IsRoster}
+use Rattle.image_parts.specs.Images.{IsRoster}
 use Rattle.image_parts.specs.declared.roster.Roster.{Roster}
 use Rattle.network_laws.specs.Own.{HasOwnFrames as DeviceOwns, IsOwnFrame}
 use Rattle.network_laws.specs.Leaves.{answers_of}
@@ -109,12 +110,12 @@ none_of p (w ∷ ws) h =
 
 -- while a boot-up message wins, no answer waits
 module _ (d : Device) (own : DeviceOwns d) (c : Contender)
-    (e : winner_of (contenders_of (d.number, d.waiting)) ≡ Some c) where
+    (e : winner_of (contenders_of (device_sender d.number, d.waiting)) ≡ Some c) where
   abbrev sent : Waiting
   sent = get_or d.waiting c.place none
 
   within : c.place < length d.waiting
-  within = place_within d.number d.waiting c e
+  within = place_within (device_sender d.number) d.waiting c e
 
   own_at : (k : ℕ) → k < length d.waiting
       → IsOwnFrame d.number (get_or d.waiting k none).purpose (get_or d.waiting k none).frame
@@ -130,7 +131,7 @@ module _ (d : Device) (own : DeviceOwns d) (c : Contender)
   no_answer is k l Heartbeat f = refl
   no_answer is k l (Tpdo j) f = refl
   no_answer is k l (Sdo j) f =
-      absurd (none_lower d.number d.waiting c e k l
+      absurd (none_lower (device_sender d.number) d.waiting c e k l
       (lower (subst (λ (p : Purpose). IsOwnFrame d.number p (get_or d.waiting k none).frame) f (own_at k l))
       (boot_id is)))
     where
@@ -170,19 +171,19 @@ owns_at [] j l h = absurd (omega (arith, l))
 owns_at (d ∷ ds) zero l h = h.0
 owns_at (d ∷ ds) (suc j) l h = owns_at ds j (omega (arith, l)) h.1
 
-is_request : (manager n : ℕ) (p : Purpose) (frame : BaseFrame) → IsManagersFrame manager p frame
-    → is_unwanted (SdoOf n) p ≡ true → frame.id ≡ sdo_request_id n
-is_request manager n BootUp frame h e = absurd cc
-is_request manager n Heartbeat frame h e = absurd cc
-is_request manager n (Tpdo j) frame h e = absurd h
-is_request manager n (Sdo j) frame h e = h.1 ∙ ap sdo_request_id (sym same)
+is_request : (manager : ℕ) (nodes : List ℕ) (n : ℕ) (p : Purpose) (frame : BaseFrame)
+    → IsManagersFrame manager nodes p frame → is_unwanted (SdoOf n) p ≡ true → frame.id ≡ sdo_request_id n
+is_request manager nodes n BootUp frame h e = absurd cc
+is_request manager nodes n Heartbeat frame h e = absurd cc
+is_request manager nodes n (Tpdo j) frame h e = absurd h
+is_request manager nodes n (Sdo j) frame h e = h.1.1 ∙ ap sdo_request_id (sym same)
   where
     same : n ≡ j
     same = grind (arith, nat_tests)
-is_request manager n Emergency frame h e = absurd h
-is_request manager n Sync frame h e = absurd cc
-is_request manager n Time frame h e = absurd cc
-is_request manager n Nmt frame h e = absurd cc
+is_request manager nodes n Emergency frame h e = absurd h
+is_request manager nodes n Sync frame h e = absurd cc
+is_request manager nodes n Time frame h e = absurd cc
+is_request manager nodes n Nmt frame h e = absurd cc
 
 not_found : (c : Contender) (ds : List Device) → sender_place c ds ≡ None → (k : ℕ) (d : Device) → k < length ds
     → contends_with c (get_or ds k d) ≡ false
@@ -206,18 +207,18 @@ module _ (image : Image) (roster : Roster) (is : IsRoster roster) where
       w = get_or d.waiting c.place none
 
       abbrev slot : Slot
-      slot = slot_of t rule bit c.node w.frame
+      slot = slot_of t rule bit c.sender w.frame
 
       there : (j < length ds) × (contends_with c d ≡ true)
       unfolding sender_place
       there =
           let at = position-Some (contends_with c) ds j (without_power false 0) (sym found) in (at.0, at.1)
 
-      wins_list : winner_of (contenders_of (d.number, d.waiting)) ≡ Some c
+      wins_list : winner_of (contenders_of (device_sender d.number, d.waiting)) ≡ Some c
       wins_list = contends_is c d there.1
 
-      its_node : c.node ≡ d.number
-      its_node = node_is d.number d.waiting c wins_list
+      its_node : c.sender ≡ device_sender d.number
+      its_node = node_is (device_sender d.number) d.waiting c wins_list
 
       owns : DeviceOwns d
       owns = owns_at ds j there.0 g.sound.device_frames
@@ -274,36 +275,34 @@ module _ (image : Image) (roster : Roster) (is : IsRoster roster) where
           manager = g.sound.manager;
           device_frames = set_owns ds j c.place g.sound.device_frames;
           manager_frames = g.sound.manager_frames;
-          wire_frame = inr (
-            subst (IsNode roster.manager) (sym its_node) (at_j.is_number.0, at_j.is_number.1, at_j.apart),
-            (w.purpose, subst (λ k. IsOwnFrame k w.purpose w.frame) (sym its_node) own_frame),
-          );
+          wire_frame = inr (d.number, (its_node, (at_j.is_number, (w.purpose, own_frame))));
         };
         exchanges = sends;
       }
 
     -- the frame of the manager starts
-    module _ (wins_list : winner_of (contenders_of (m.number, m.waiting)) ≡ Some c) where
+    module _ (wins_list : winner_of (contenders_of (manager_sender m.number, m.waiting)) ≡ Some c) where
       abbrev mw : Waiting
       mw = get_or m.waiting c.place none
 
       abbrev mslot : Slot
-      mslot = slot_of t rule bit c.node mw.frame
+      mslot = slot_of t rule bit c.sender mw.frame
 
       abbrev mleft : Manager
       mleft = record m { waiting = remove m.waiting c.place }
 
       mwithin : c.place < length m.waiting
-      mwithin = place_within m.number m.waiting c wins_list
+      mwithin = place_within (manager_sender m.number) m.waiting c wins_list
 
-      mnode : c.node ≡ roster.manager
-      mnode = node_is m.number m.waiting c wins_list ∙ g.sound.manager
+      mnode : c.sender ≡ manager_sender roster.manager
+      mnode = node_is (manager_sender m.number) m.waiting c wins_list ∙ ap manager_sender g.sound.manager
 
-      mframe : IsManagersFrame roster.manager mw.purpose mw.frame
+      mframe : IsManagersFrame roster.manager roster.nodes mw.purpose mw.frame
       mframe =
-          subst (λ k. IsManagersFrame k mw.purpose mw.frame) g.sound.manager
-          (All-get_or (λ (w : Waiting). IsManagersFrame m.number w.purpose w.frame) m.waiting c.place none mwithin
-          g.sound.manager_frames.frames)
+          subst (λ ns. IsManagersFrame roster.manager ns mw.purpose mw.frame) g.sound.nodes
+          (subst (λ k. IsManagersFrame k (numbers_of m.nodes) mw.purpose mw.frame) g.sound.manager
+          (All-get_or (λ (w : Waiting). IsManagersFrame m.number (numbers_of m.nodes) w.purpose w.frame) m.waiting
+          c.place none mwithin g.sound.manager_frames.frames))
 
       manager_sends : (i : ℕ) → i < length ds
           → Ex image (device_at ds i).number (marks (device_at ds i).number) (device_at ds i) mleft i (Some mslot)
@@ -320,13 +319,13 @@ module _ (image : Image) (roster : Roster) (is : IsRoster roster) where
           by true to_node =
               request_starts image (device_at ds i).number at.is_number (marks (device_at ds i).number) (device_at ds i)
               (node_at m.nodes i).stage mslot m.waiting c.place none mwithin to_node
-              (is_request roster.manager (device_at ds i).number mw.purpose mw.frame mframe to_node) refl
+              (is_request roster.manager roster.nodes (device_at ds i).number mw.purpose mw.frame mframe to_node) refl
               (g.exchanges i l)
           by false other =
               managers_starts image (device_at ds i).number at.is_number (marks (device_at ds i).number) (device_at ds i)
               (node_at m.nodes i).stage mslot m.waiting c.place none mwithin
-              (manager_foreign (device_at ds i).number at.is_number roster.manager is.manager mw.purpose mw.frame mframe
-              (λ same. at.apart (sym same)) other)
+              (manager_foreign (device_at ds i).number at.is_number roster.manager is.manager roster.nodes at.others
+              mw.purpose mw.frame mframe other)
               other (g.exchanges i l)
 
       pub manager_starts : Good marks ds mleft (Some mslot)
@@ -349,7 +348,7 @@ module _ (image : Image) (roster : Roster) (is : IsRoster roster) where
     by_sender : (c : Contender) → winner s.devices s.manager ≡ Some c → Good marks s.devices s.manager None
         → (o : Option ℕ) → o ≡ sender_place c s.devices
         → Good marks (devices_without_winner c o s.devices) (manager_without_winner c o s.manager)
-        (Some (slot_of t s.slots s.bit_time c.node (winning_frame c o s.devices s.manager)))
+        (Some (slot_of t s.slots s.bit_time c.sender (winning_frame c o s.devices s.manager)))
     unfolding winner
     by_sender c e g (Some j) found = device_starts marks s.devices s.manager g t s.slots s.bit_time c j found
     by_sender c e g None found =

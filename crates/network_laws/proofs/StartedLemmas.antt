@@ -6,12 +6,13 @@ use Rattle.image_parts.specs.Asking.{Answer, outcome}
 use Rattle.manager_nodes.specs.Table.{all_configured, has_booted, is_configured, node_after}
 use Rattle.manager_nodes.specs.declared.booting.Booting.{Booting}
 use Rattle.can_frame.specs.Frames.{BaseFrame}
+use Rattle.can_frame.specs.Senders.{manager_sender}
 use Rattle.image_parts.specs.Contents.{Image, roster_of}
 use Rattle.image_parts.specs.declared.part.Part.TheVariants.{Roster}
 use Rattle.image_parts.specs.declared.roster.Roster.{Roster as Network}
 use Rattle.image_parts.specs.declared.start_mode.StartMode.TheVariants.{EachNode}
 use Rattle.node_boot.specs.declared.boot_stage.BootStage.{BootStage}
-use Rattle.node_boot.specs.declared.boot_stage.BootStage.TheVariants.{Unseen, Comparing, Writing, Configured, Failed}
+use Rattle.node_boot.specs.declared.boot_stage.BootStage.TheVariants.{Unseen, Comparing, Writing, Configured, Failed, Own}
 use Rattle.node_boot.specs.declared.note_kind.NoteKind.{NoteKind}
 use Rattle.node_boot.specs.declared.note_kind.NoteKind.TheVariants as kind
 use Rattle.nmt_boot.proofs.FrameLemmas.{received_holds}
@@ -43,7 +44,8 @@ module _ (image : Image) (t : ℕ) (frame : BaseFrame) (m : Manager) (P : Startu
 
   frame_holds : Holds (outcome (after_frame t frame m) image).0
   frame_holds = received_holds image t frame m (λ r read. Holds r.0) (stays m.nodes)
-      (λ i e. by_note m.startup _ _ P (stays _) (turns _)) (λ i e. by_note m.startup _ _ P (stays _) (turns _))
+      (λ i e o. stays m.nodes)
+      (λ i e o. by_note m.startup _ _ P (stays _) (turns _)) (λ i e. by_note m.startup _ _ P (stays _) (turns _))
 
 -- ---- the timers
 
@@ -171,6 +173,7 @@ booted_stays t number n (Comparing place expected transfer deadline) e = absurd 
 booted_stays t number n (Writing place transfer deadline) e = absurd (not_both (n == number) e)
 booted_stays t number n Configured e = e
 booted_stays t number n Failed e = absurd (not_both (n == number) e)
+booted_stays t number n Own e = absurd (not_both (n == number) e)
 
 or_parts : (a b : Bool) → (a || b) ≡ true → (a ≡ true) ⊎ (b ≡ true)
 or_parts true b e = inl refl
@@ -236,7 +239,7 @@ heard_with : (image : Image) (t : ℕ) (slot : Option Slot) (m : Manager) → m.
     → IsWith (outcome (manager_after_slot t slot m) image).0
 unfolding manager_after_slot
 heard_with image t None m k = not_yet m.startup m.nodes k
-heard_with image t (Some slot) m k = by (m.number == slot.sender)
+heard_with image t (Some slot) m k = by (manager_sender m.number == slot.sender)
   where
     by : (b : Bool) → IsWith (outcome (if b then Answer (m, []) else after_frame t slot.frame m) image).0
     by true = not_yet m.startup m.nodes k

@@ -15,7 +15,7 @@ use Rattle.node_boot.specs.Boot.{boot_failed, comparison_started, download_confi
 use Rattle.node_boot.specs.Boot.{sdo_answer, write_started}
 use Rattle.node_boot.specs.declared.note_kind.NoteKind.TheVariants as kind
 use Rattle.node_boot.specs.declared.boot_stage.BootStage.{BootStage}
-use Rattle.node_boot.specs.declared.boot_stage.BootStage.TheVariants.{Unseen, Comparing, Writing, Configured, Failed}
+use Rattle.node_boot.specs.declared.boot_stage.BootStage.TheVariants.{Unseen, Comparing, Writing, Configured, Failed, Own}
 use Rattle.node_boot.specs.declared.boot_step.BootStep.{BootStep}
 use Rattle.network_laws.specs.Steps.{ComparesOrWrites, FollowsAnswer, StartsWrite, WritesOn}
 
@@ -84,3 +84,4 @@ module _ (image : Image) (deadline node : ℕ) where
       written old j (after_answer transfer answer).stage (after_answer transfer answer).progress
   answer_followed Configured answer = refl
   answer_followed Failed answer = refl
+  answer_followed Own answer = refl

@@ -5,7 +5,7 @@ use Rattle.std.specs.Prelude.{◌==◌, if◌then◌else◌, remove}
 use Rattle.image_parts.specs.Asking.{Answer, outcome}
 use Rattle.bus_devices.specs.Events.{after_events_at, after_event}
 use Rattle.bus_devices.specs.Steps.{steps_due}
-use Rattle.bus_devices.proofs.EventLemmas.{happens_nmt, happens_set, outcome_events, outcome_power}
+use Rattle.bus_devices.proofs.EventLemmas.{happens_nmt, happens_set, outcome_events}
 use Rattle.can_frame.specs.declared.contender.Contender.{Contender}
 use Rattle.co_device.specs.Device.{Device, after_instant}
 use Rattle.image_parts.specs.Contents.{Image}
@@ -24,6 +24,8 @@ use Rattle.can_bus.proofs.ManagerLemmas.{outcome_managed}
 use Rattle.can_bus.proofs.NodeLemmas.{outcome_nodes}
 use Rattle.can_bus.proofs.TimeLemmas.{goes_on, starts}
 use Rattle.can_bus.proofs.WindowLemmas.{outcome_events_run}
+use Rattle.can_frame.specs.Senders.{manager_sender}
+use Rattle.network_laws.proofs.SwitchLemmas.{switch_holds}
 
 -- ---- events and the frame that ends
 
@@ -55,7 +57,7 @@ module _ (image : Image) (t : ℕ) (s : Bus) (Before Heard After : Manager → T
   one_event : (step : Step) (ds : List Device) (m : Manager) → Before m
       → Before (outcome (after_event t step (ds, m)) image).1
   one_event (Set node index sub bytes) ds m h = rw (happens_set t ds m node index sub bytes) h
-  one_event (Power node on) ds m h = rw (outcome_power t ds m node on image) h
+  one_event (Power node on) ds m h = switch_holds t ds m node on image (λ r. Before r.1) h h
   one_event (Nmt node c) ds m h = rw (happens_nmt t ds m node c) (command c node m h)
 
   all_events : (steps : List TimedStep) (ds : List Device) (m : Manager) → Before m
@@ -66,7 +68,7 @@ module _ (image : Image) (t : ℕ) (s : Bus) (Before Heard After : Manager → T
       let after = outcome (after_event t step.step (ds, m)) image in
       rw (outcome_events t step steps (ds, m) image) (all_events steps after.0 after.1 (one_event step.step ds m h))
 
-  run_manager : Before s.manager → Before (run_by_events t s image).manager
+  pub run_manager : Before s.manager → Before (run_by_events t s image).manager
   run_manager h =
       let b = begun t s image in
       let there : Before b.manager = rw (begun_keeps_manager image t s) h in
@@ -84,7 +86,7 @@ module _ (image : Image) (t : ℕ) (s : Bus) (Before Heard After : Manager → T
   start_manager None b h = started_manager (winner b.devices b.manager) b h
   start_manager (Some slot) b h = h
 
-  slot_manager : (b : Bus) → After b.manager → After (after_arbitration t b).manager
+  pub slot_manager : (b : Bus) → After b.manager → After (after_arbitration t b).manager
   unfolding after_arbitration
   slot_manager b h = start_manager b.wire b h
 
@@ -125,7 +127,7 @@ pub hears_keeps : (image : Image) (t : ℕ) (P : Manager → Type 0)
     → (slot : Option Slot) (m : Manager) → P m → P (outcome (manager_after_slot t slot m) image).0
 unfolding manager_after_slot
 hears_keeps image t P frame None m h = h
-hears_keeps image t P frame (Some slot) m h = by (m.number == slot.sender)
+hears_keeps image t P frame (Some slot) m h = by (manager_sender m.number == slot.sender)
   where
     by : (b : Bool) → P (outcome (if b then Answer (m, []) else after_frame t slot.frame m) image).0
     by true = h

@@ -4,7 +4,7 @@ use Rattle.std.proofs.Common.{◌⊎◌, inl, inr, refl, sym, ap, ◌∙◌, sub
 use Rattle.std.specs.Prelude.{◌==◌, if◌then◌else◌}
 use Rattle.std.proofs.lemmas.List.Elements.{All-nil}
 use Rattle.image_parts.specs.Asking.{Answer, outcome}
-use Rattle.network_laws.proofs.NodeLemmas.{boot_begins, frame_goes, timers_go}
+use Rattle.network_laws.proofs.NodeLemmas.{boot_begins, frame_goes, own_greeted, timers_go}
 use Rattle.network_laws.proofs.OwnLemmas.{frame_stays}
 use Rattle.network_laws.proofs.StepLemmas.{answer_followed, boot_begins as begins_as}
 use Rattle.network_laws.specs.Requests.{IsAlone, LeavesBoot, TakesStep, numbers_of}
@@ -14,6 +14,7 @@ use Rattle.network_laws.specs.Requests.{requests_to}
 use Rattle.can_bus.specs.Bus.{delivered_of, manager_after_slot}
 use Rattle.can_bus.specs.declared.slot.Slot.{Slot}
 use Rattle.can_frame.specs.Identifiers.{error_control_id, sdo_answer_id, sdo_request_id}
+use Rattle.can_frame.specs.Senders.{device_sender, manager_sender}
 use Rattle.can_frame.specs.WaitingFrames.{waits_for}
 use Rattle.can_frame.specs.declared.purpose.Purpose.TheVariants.{BootUp}
 use Rattle.can_frame.specs.declared.waiting.Waiting.{Waiting}
@@ -28,15 +29,15 @@ use Rattle.network_laws.specs.Writes.{writes_of_frame}
 use Rattle.network_laws.specs.Written.{AreOf, Written}
 use Rattle.network_laws.specs.Exchanges.{Exchanges}
 use Rattle.network_laws.specs.Marks.{written_by_frame}
-use Rattle.network_laws.proofs.BootLemmas.{exchange_begins, exchange_fails, exchange_steps}
+use Rattle.network_laws.proofs.BootLemmas.{exchange_begins, exchange_fails, exchange_steps, own_greeted as exchange_greeted}
 use Rattle.network_laws.proofs.DeviceLemmas.{exchange_left, exchange_served, slot_over}
 use Rattle.network_laws.proofs.MarkLemmas.{told}
 use Rattle.network_laws.proofs.Others.{frame_does, frame_writes_own, instant_leaves}
 use Rattle.network_laws.proofs.RosterLemmas.{IsItsAnswer, IsItsBootUp, IsNone, IsToIt, Kind, alone_still}
-use Rattle.network_laws.proofs.RosterLemmas.{number_still}
+use Rattle.network_laws.proofs.RosterLemmas.{number_still, two_senders}
 use Rattle.network_laws.proofs.SendLemmas.{IsForeign}
 use Rattle.nmt_boot.specs.Manager.{Manager, timers}
-use Rattle.manager_nodes.specs.Table.{node_at, sdo_frames}
+use Rattle.manager_nodes.specs.Table.{is_own, node_at, sdo_frames}
 use Rattle.nmt_boot.specs.Manager as manager
 use Rattle.node_boot.specs.Boot.{boot_nmt_slave, sdo_answer}
 use Rattle.node_boot.specs.declared.boot_stage.BootStage.{BootStage}
@@ -131,17 +132,27 @@ module _ (image : Image) (n : ℕ) where
     step = outcome (sdo_answer (t + m.timeout)
         (node_at m.nodes i).number (node_at m.nodes i).stage slot.frame.bytes) image
 
-    -- by its boot-up message
-    manager_begins : IsBootUp n slot.frame → Ex marks d m i (Some slot) → Ex marks d heard i None
-    manager_begins b h =
+    -- by its boot-up message, where it isn't the manager's own
+    manager_begins : is_own (node_at m.nodes i).stage ≡ false → IsBootUp n slot.frame → Ex marks d m i (Some slot)
+        → Ex marks d heard i None
+    manager_begins other b h =
         stepped_to marks d m heard i (outcome (boot_nmt_slave (t + m.timeout) (node_at m.nodes i).number) image) [] number
-        (boot_begins m i alone image t slot.frame (subst (λ k. IsBootUp k slot.frame) (sym number) b))
+        (boot_begins m i alone image t slot.frame other (subst (λ k. IsBootUp k slot.frame) (sym number) b))
         (exchange_begins image n (t + m.timeout) marks d (node_at m.nodes i).stage (requests_to n m.waiting) slot b
         (outcome (boot_nmt_slave (t + m.timeout) (node_at m.nodes i).number) image)
         (subst (λ k. Rattle.network_laws.specs.Steps.ComparesOrWrites image (t + m.timeout) n
         (outcome (boot_nmt_slave (t + m.timeout) k) image)
         (outcome (boot_nmt_slave (t + m.timeout) k) image).stage) (sym number)
         (begins_as image (t + m.timeout) n)) h)
+
+    -- by that of its own node
+    manager_greets : is_own (node_at m.nodes i).stage ≡ true → requests_to n m.waiting ≡ [] → IsBootUp n slot.frame
+        → Ex marks d m i (Some slot) → Ex marks d heard i None
+    manager_greets itself unasked b h =
+        boot_left marks d m heard i None number
+        (own_greeted m i alone image t slot.frame itself (subst (λ k. IsBootUp k slot.frame) (sym number) b))
+        (exchange_greeted image n (t + m.timeout) marks d (node_at m.nodes i).stage (requests_to n m.waiting) slot b
+        itself unasked h)
 
     -- by any other frame
     manager_hears : (IsBootUp n slot.frame → ⊥) → Ex marks d m i (Some slot) → Ex marks d heard i None
@@ -219,9 +230,10 @@ module _ (image : Image) (n : ℕ) where
 
   -- ---- ALL OF A DELIVERY: the device, its timers, the manager and its timers
 
-  module _ (roster : Roster) (is : IsNodeNumber n) (apart : n ≢ roster.manager) (t : ℕ)
+  module _ (roster : Roster) (is : IsNodeNumber n) (t : ℕ)
       (marks after : ℕ × ℕ → Bool) (d : Device) (m : Manager) (i : ℕ) (slot : Slot) (of_node : d.number ≡ n)
       (number : (node_at m.nodes i).number ≡ n) (alone : IsAlone m.nodes i) (manager_is : m.number ≡ roster.manager)
+      (unasked : is_own (node_at m.nodes i).stage ≡ true → requests_to n m.waiting ≡ [])
       (now : (place : ℕ × ℕ) → after place ≡ told (marks place) (written_by_frame image t slot d) n place) where
     abbrev d_after : Device
     d_after = after_instant t (outcome (hears t (delivered_of slot) d) image)
@@ -233,48 +245,52 @@ module _ (image : Image) (n : ℕ) where
     m_after = (timers t m_heard).0
 
     -- who sends it
-    own_unheard : slot.sender ≡ n → outcome (hears t (delivered_of slot) d) image ≡ d
+    own_unheard : slot.sender ≡ device_sender n → outcome (hears t (delivered_of slot) d) image ≡ d
     unfolding hears
-    own_unheard e = rw (of_node, e, number_itself n) refl
+    own_unheard e = rw (of_node, e, number_itself (device_sender n)) refl
 
-    other_heard : slot.sender ≢ n → outcome (hears t (delivered_of slot) d) image
+    other_heard : slot.sender ≢ device_sender n → outcome (hears t (delivered_of slot) d) image
         ≡ outcome (after_frame t slot.frame d) image
     unfolding hears
-    other_heard e = rw (of_node, number_other n slot.sender (λ x. e (sym x))) refl
+    other_heard e = rw (of_node, number_other (device_sender n) slot.sender (λ x. e (sym x))) refl
 
-    own_unwritten : slot.sender ≡ n → (place : ℕ × ℕ) → after place ≡ marks place
+    own_unwritten : slot.sender ≡ device_sender n → (place : ℕ × ℕ) → after place ≡ marks place
     own_unwritten e place = now place ∙ ap (λ (ws : List Written). told (marks place) ws n place)
-        (none (d.number == slot.sender) (ap (λ x. d.number == x) e ∙ ap (λ x. x == n) of_node ∙ number_itself n))
+        (none (device_sender d.number == slot.sender) (ap (λ x. device_sender d.number == x) e
+        ∙ ap (λ x. device_sender x == device_sender n) of_node ∙ number_itself (device_sender n)))
       where
         none : (b : Bool) → b ≡ true → (if b then [] else writes_of_frame image t slot.frame d) ≡ []
         none true x = refl
         none false x = absurd cc
 
-    other_written : slot.sender ≢ n → (place : ℕ × ℕ)
+    other_written : slot.sender ≢ device_sender n → (place : ℕ × ℕ)
         → after place ≡ told (marks place) (writes_of_frame image t slot.frame d) n place
     other_written e place = now place ∙ ap (λ (ws : List Written). told (marks place) ws n place)
-        (all (d.number == slot.sender) (ap (λ x. x == slot.sender) of_node ∙ number_other n slot.sender (λ x. e (sym x))))
+        (all (device_sender d.number == slot.sender) (ap (λ x. device_sender x == slot.sender) of_node
+        ∙ number_other (device_sender n) slot.sender (λ x. e (sym x))))
       where
         all : (b : Bool) → b ≡ false → (if b then [] else writes_of_frame image t slot.frame d)
             ≡ writes_of_frame image t slot.frame d
         all true x = absurd cc
         all false x = refl
 
-    manager_unheard : slot.sender ≡ roster.manager → m_heard ≡ m
+    manager_unheard : slot.sender ≡ manager_sender roster.manager → m_heard ≡ m
     unfolding manager_after_slot
-    manager_unheard e = by (m.number == slot.sender)
-        (ap (λ x. m.number == x) e ∙ ap (λ x. x == roster.manager) manager_is ∙ number_itself roster.manager)
+    manager_unheard e = by (manager_sender m.number == slot.sender)
+        (ap (λ x. manager_sender m.number == x) e ∙ ap (λ x. manager_sender x == manager_sender roster.manager) manager_is
+        ∙ number_itself (manager_sender roster.manager))
       where
         by : (b : Bool) → b ≡ true
             → (outcome (if b then Answer (m, []) else manager.after_frame t slot.frame m) image).0 ≡ m
         by true x = refl
         by false x = absurd cc
 
-    manager_heard : slot.sender ≢ roster.manager
+    manager_heard : slot.sender ≢ manager_sender roster.manager
         → m_heard ≡ (outcome (manager.after_frame t slot.frame m) image).0
     unfolding manager_after_slot
-    manager_heard e = by (m.number == slot.sender)
-        (ap (λ x. x == slot.sender) manager_is ∙ number_other roster.manager slot.sender (λ x. e (sym x)))
+    manager_heard e = by (manager_sender m.number == slot.sender)
+        (ap (λ x. manager_sender x == slot.sender) manager_is
+        ∙ number_other (manager_sender roster.manager) slot.sender (λ x. e (sym x)))
       where
         by : (b : Bool) → b ≡ false
             → (outcome (if b then Answer (m, []) else manager.after_frame t slot.frame m) image).0
@@ -303,8 +319,8 @@ module _ (image : Image) (n : ℕ) where
     heard_same : numbers_of (outcome (manager.after_frame t slot.frame m) image).0.nodes ≡ numbers_of m.nodes
     heard_same = (frame_stays image t slot.frame m).numbers
 
-    not_manager : slot.sender ≡ n → slot.sender ≢ roster.manager
-    not_manager e f = apart (sym e ∙ f)
+    not_manager : slot.sender ≡ device_sender n → slot.sender ≢ manager_sender roster.manager
+    not_manager e f = two_senders n roster.manager (sym e ∙ f)
 
     answer_no_boot : slot.frame.id ≡ sdo_answer_id n → IsBootUp n slot.frame → ⊥
     answer_no_boot e b = no_both e b.0
@@ -321,9 +337,10 @@ module _ (image : Image) (n : ℕ) where
     -- a frame that is none of the exchange, once the device has had it
     foreign_heard : (e : Device) → outcome (hears t (delivered_of slot) d) image ≡ e → IsForeign n is slot.frame
         → Ex after (after_instant t e) m i None → Ex after d_after m_after i None
-    foreign_heard e f foreign h = by (cases_eq slot.sender roster.manager)
+    foreign_heard e f foreign h = by (cases_eq slot.sender (manager_sender roster.manager))
       where
-        by : (slot.sender ≡ roster.manager) ⊎ (slot.sender ≢ roster.manager) → Ex after d_after m_after i None
+        by : (slot.sender ≡ manager_sender roster.manager) ⊎ (slot.sender ≢ manager_sender roster.manager)
+            → Ex after d_after m_after i None
         by (inl its) = finish e m f (manager_unheard its) refl h
         by (inr other) =
             finish e (outcome (manager.after_frame t slot.frame m) image).0 f (manager_heard other) heard_same
@@ -333,8 +350,13 @@ module _ (image : Image) (n : ℕ) where
     delivery_turns (IsItsBootUp from_node b) h =
         finish d (outcome (manager.after_frame t slot.frame m) image).0 (own_unheard from_node)
         (manager_heard (not_manager from_node)) heard_same
-        (manager_begins t after (after_instant t d) m i slot number alone b
+        (by (is_own (node_at m.nodes i).stage) refl
         (device_sends t marks after d m i slot of_node (own_unwritten from_node) (Some slot) h))
+      where
+        by : (x : Bool) → is_own (node_at m.nodes i).stage ≡ x → Ex after (after_instant t d) m i (Some slot)
+            → Ex after (after_instant t d) (outcome (manager.after_frame t slot.frame m) image).0 i None
+        by true itself = manager_greets t after (after_instant t d) m i slot number alone itself (unasked itself) b
+        by false other = manager_begins t after (after_instant t d) m i slot number alone other b
     delivery_turns (IsItsAnswer from_node id) h =
         finish d (outcome (manager.after_frame t slot.frame m) image).0 (own_unheard from_node)
         (manager_heard (not_manager from_node)) heard_same
@@ -344,9 +366,9 @@ module _ (image : Image) (n : ℕ) where
         finish (outcome (after_frame t slot.frame d) image) m (other_heard other) (manager_unheard from_manager) refl
         (device_runs t after (outcome (after_frame t slot.frame d) image) m i None
         (device_takes t marks after d m i slot of_node (request_no_boot id) (other_written other) h))
-    delivery_turns (IsNone foreign) h = by (cases_eq slot.sender n)
+    delivery_turns (IsNone foreign) h = by (cases_eq slot.sender (device_sender n))
       where
-        by : (slot.sender ≡ n) ⊎ (slot.sender ≢ n) → Ex after d_after m_after i None
+        by : (slot.sender ≡ device_sender n) ⊎ (slot.sender ≢ device_sender n) → Ex after d_after m_after i None
         by (inl from_node) =
             foreign_heard d (own_unheard from_node) foreign
             (slot_over image n after (after_instant t d) (node_at m.nodes i).stage (requests_to n m.waiting) slot

@@ -12,7 +12,8 @@ use Rattle.concise_dcf.specs.declared.write.Write.{Write}
 use Rattle.network_laws.specs.Written.{AgreeButRegister, AreOf, AreStored, NoneBySdo, Written, error_register}
 use Rattle.network_laws.specs.Written.{with_writes}
 use Rattle.network_laws.specs.Exchanges.{GivesBelow, HoldsBelow}
-use Rattle.network_laws.specs.Files.{HasData, IsExcepted, IsWrite}
+use Rattle.image_parts.specs.Configured.{IsWrite}
+use Rattle.network_laws.specs.Files.{HasData, IsExcepted}
 use Rattle.concise_dcf.specs.Writes.{place_of}
 use Rattle.network_laws.proofs.ListLemmas.{below_next, place_or_not}
 use Rattle.network_laws.proofs.MarkLemmas.{IsWritten, stays_marked, told, written_is_marked}
@@ -33,7 +34,7 @@ kept_or_written (w ∷ writes) values place =
     by (inl same) (inl here) = inr (w, ((0, omega arith, refl), here))
     by (inl same) (inr apart) = inl (same ∙ written_elsewhere values w.place place w.bytes (λ e. apart (sym e)))
 
-changed_by : (writes : List Written) (values left : Values) → AreStored writes values left → (place : ℕ × ℕ)
+pub changed_by : (writes : List Written) (values left : Values) → AreStored writes values left → (place : ℕ × ℕ)
     → place ≢ error_register → (get left place ≡ get values place) ⊎ IsWritten place writes
 changed_by writes values left stored place apart = by (kept_or_written writes values place)
   where

@@ -1,6 +1,7 @@
 -- The requests to a node among the frames that wait.
 use Rattle.std.proofs.Common.{◌≡◌, ◌≢◌, ℕ, Bool, true, false, not, List, [], ◌∷◌, ◌++◌, Option, Some, None, refl, sym, ap, ◌∙◌, arith}
-use Rattle.std.specs.Prelude.{if◌then◌else◌, ◌==◌}
+use Rattle.std.specs.Prelude.{if◌then◌else◌, ◌==◌, ◌||◌}
+use Rattle.std.proofs.lemmas.Bool.{false≢true}
 use Rattle.std.proofs.lemmas.Bool.Decides.{nat_tests}
 use Rattle.std.proofs.lemmas.List.{append-nil}
 use Rattle.std.proofs.lemmas.List.Elements.{filter-append}
@@ -18,8 +19,8 @@ use Rattle.manager_nodes.specs.declared.booting.Booting.{Booting}
 use Rattle.image_parts.specs.declared.start_mode.StartMode.{StartMode}
 use Rattle.image_parts.specs.declared.start_mode.StartMode.TheVariants.{ConfiguredNodes, EachNode, WholeNetwork}
 use Rattle.nmt_boot.specs.Startup.{Startup, frames_of_configured, network_start_frames, start_frames, start_of, starts_each}
-use Rattle.nmt_boot.specs.Startup.{starts_network, starts_of_configured}
-use Rattle.manager_nodes.specs.Table.{has_booted, sdo_frames}
+use Rattle.nmt_boot.specs.Startup.{own_start, starts_network, starts_with_network}
+use Rattle.manager_nodes.specs.Table.{has_booted, is_own, sdo_frames}
 use Rattle.network_laws.specs.Requests.{requests_to}
 
 pub number_itself : (n : ℕ) → (n == n) ≡ true
@@ -34,6 +35,9 @@ number_other n k apart = by (n == k) refl
     by : (b : Bool) → (n == k) ≡ b → b ≡ false
     by true e = absurd (apart (is e))
     by false e = refl
+
+pub number_differs : (n k : ℕ) → (n == k) ≡ false → n ≢ k
+number_differs n k e same = absurd (false≢true (sym e ∙ ap (λ x. x == k) same ∙ number_itself k))
 
 module _ (n : ℕ) where
   pub requests-append : (xs ys : List Waiting) → requests_to n (xs ++ ys) ≡ requests_to n xs ++ requests_to n ys
@@ -50,13 +54,13 @@ module _ (n : ℕ) where
   other_request k apart None = refl
   other_request k apart (Some bytes) = rw (number_other n k apart) refl
 
-  no_configured : (nodes : List Booting) → requests_to n (starts_of_configured nodes) ≡ []
+  no_configured : (nodes : List Booting) → requests_to n (starts_with_network nodes) ≡ []
   unfolding requests_to
   no_configured [] = refl
-  no_configured (node ∷ nodes) = by (has_booted node.stage) (no_configured nodes)
+  no_configured (node ∷ nodes) = by (has_booted node.stage || is_own node.stage) (no_configured nodes)
     where
-      by : (b : Bool) → requests_to n (starts_of_configured nodes) ≡ []
-          → requests_to n ((if b then start_of node.number else []) ++ starts_of_configured nodes) ≡ []
+      by : (b : Bool) → requests_to n (starts_with_network nodes) ≡ []
+          → requests_to n ((if b then start_of node.number else []) ++ starts_with_network nodes) ≡ []
       by true rest = rest
       by false rest = rest
 
@@ -82,6 +86,20 @@ module _ (n : ℕ) where
   no_start startup nodes k (Some kind.Difference) = refl
   no_start startup nodes k (Some (kind.Aborted abort)) = refl
   no_start startup nodes k (Some kind.TimedOut) = refl
+
+  -- the start of the manager's own node
+  no_own_start : (startup : Startup) (k : ℕ) → requests_to n (own_start startup k) ≡ []
+  unfolding requests_to own_start
+  no_own_start startup k = by startup.is_started
+    where
+      by : (b : Bool) → requests_to n (if b then start_of k else []) ≡ []
+      by true = refl
+      by false = refl
+
+  pub own_start_more : (startup : Startup) (k : ℕ) (ws : List Waiting)
+      → requests_to n (ws ++ own_start startup k) ≡ requests_to n ws
+  own_start_more startup k ws = rw (requests-append ws (own_start startup k), no_own_start startup k)
+      (append-nil (requests_to n ws))
 
   -- ---- the request of the node itself, and of another
 

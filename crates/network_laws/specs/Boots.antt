@@ -7,7 +7,7 @@ use Rattle.sdo_client.specs.Client.{after_answer}
 use Rattle.sdo_client.specs.declared.progress.Progress.TheVariants as progress
 use Rattle.sdo_client.specs.declared.client_transfer.ClientTransfer.{ClientTransfer as Transfer}
 use Rattle.node_boot.specs.declared.boot_stage.BootStage.{BootStage}
-use Rattle.node_boot.specs.declared.boot_stage.BootStage.TheVariants.{Unseen, Comparing, Writing, Configured, Failed}
+use Rattle.node_boot.specs.declared.boot_stage.BootStage.TheVariants.{Unseen, Comparing, Writing, Configured, Failed, Own}
 use Rattle.can_bus.specs.declared.slot.Slot.{Slot}
 use Rattle.can_frame.specs.ErrorControl.{IsBootUp}
 
@@ -38,3 +38,4 @@ FollowsWrite image node heard j transfer (Writing place writing deadline) =
 FollowsWrite image node heard j transfer Configured =
     (IsLastWrite image node j × IsConfirmedBy node transfer heard) ⊎ IsBootUpOf node heard
 FollowsWrite image node heard j transfer Failed = Unit {0}
+FollowsWrite image node heard j transfer Own = ⊥

@@ -17,10 +17,11 @@ use Rattle.sdo_client.specs.declared.client_transfer.ClientTransfer.{ClientTrans
 use Rattle.sdo_client.specs.declared.progress.Progress.TheVariants as progress
 use Rattle.concise_dcf.specs.declared.write.Write.{Write}
 use Rattle.network_laws.specs.Leaves.{answers_of}
-use Rattle.network_laws.specs.Files.{HasData, IsExcepted, IsWrite}
+use Rattle.image_parts.specs.Configured.{IsWrite}
+use Rattle.network_laws.specs.Files.{HasData, IsExcepted}
 use Rattle.concise_dcf.specs.Writes.{place_of}
 use Rattle.node_boot.specs.declared.boot_stage.BootStage.{BootStage}
-use Rattle.node_boot.specs.declared.boot_stage.BootStage.TheVariants.{Unseen, Comparing, Writing, Configured, Failed}
+use Rattle.node_boot.specs.declared.boot_stage.BootStage.TheVariants.{Unseen, Comparing, Writing, Configured, Failed, Own}
 use Rattle.network_laws.specs.Downloads.{IsUnderWay}
 
 -- ---- the frame that is under way
@@ -113,7 +114,8 @@ abbrev pub HoldsAll : Image → ℕ → (ℕ × ℕ → Bool) → Values → Typ
 HoldsAll image node marks values =
     (j : ℕ) × ((write_of (image (Boot node j)) ≡ None) × HoldsBelow image node marks values j)
 
--- THE FRAME THAT IS UNDER WAY IS AS THE STAGE HAS IT; of a boot that has failed nothing is said
+-- THE FRAME THAT IS UNDER WAY IS AS THE STAGE HAS IT; of a boot that has failed nothing is said, and to the manager's
+-- own node none is
 abbrev pub IsAsStage : Image → ℕ → (ℕ × ℕ → Bool) → Values → Transfer → BootStage → Traffic → Type 0
 IsAsStage image node marks values transfer Unseen traffic = IsSilence traffic
 IsAsStage image node marks values transfer (Comparing place expected client deadline) traffic = IsOneAtMost traffic
@@ -122,6 +124,7 @@ IsAsStage image node marks values transfer (Writing j client deadline) traffic =
 IsAsStage image node marks values transfer Configured traffic =
     IsSilence traffic × HoldsAll image node marks values
 IsAsStage image node marks values transfer Failed traffic = Unit {0}
+IsAsStage image node marks values transfer Own traffic = IsSilence traffic
 
 -- ---- a node with power of which no boot-up message waits
 

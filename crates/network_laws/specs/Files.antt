@@ -1,5 +1,5 @@
 -- What the files say of a device, and what the device holds.
-use Rattle.std.specs.Prelude.{◌≡◌, ◌≢◌, ◌⊎◌, ℕ, ◌<◌, ◌≤◌, Bool, true, false, Contains, List, Some, None, slice_get}
+use Rattle.std.specs.Prelude.{◌≡◌, ◌≢◌, ◌⊎◌, ℕ, ◌<◌, Bool, true, false, Contains, List, Some, slice_get}
 use Rattle.std.specs.FinMap.{get}
 use Rattle.network_laws.specs.Boots.{IsBootUpOf}
 use Rattle.can_bus.specs.Bus.{Bus}
@@ -7,35 +7,12 @@ use Rattle.can_frame.specs.WaitingFrames.{waits_for}
 use Rattle.can_frame.specs.declared.purpose.Purpose.TheVariants.{BootUp}
 use Rattle.co_device.specs.Device.{Device}
 use Rattle.co_dict.specs.Values.{Values}
-use Rattle.image_parts.specs.Contents.{Image, write_of}
-use Rattle.image_parts.specs.declared.part.Part.TheVariants.{Boot}
 use Rattle.concise_dcf.specs.Concise.{IsTextOf}
 use Rattle.concise_dcf.specs.Writes.{place_of}
 use Rattle.concise_dcf.specs.declared.write.Write.{Write}
 use Rattle.network_laws.specs.Written.{error_register}
 use Rattle.manager_nodes.specs.declared.booting.Booting.{Booting}
 use Rattle.node_boot.specs.declared.boot_stage.BootStage.TheVariants.{Configured}
-
--- ---- the writes of a node, 0, 1 and on, up to the first that is absent
-
--- the node has this write
-abbrev pub IsWrite : Image → ℕ → ℕ → Write → Type 0
-IsWrite image node number write = write_of (image (Boot node number)) ≡ Some write
-
--- none up to this number is absent
-abbrev pub HasWritesUpTo : Image → ℕ → ℕ → Type 0
-HasWritesUpTo image node number = (k : ℕ) → k ≤ number → write_of (image (Boot node k)) ≢ None
-
--- THE FILES GIVE THE ENTRY THIS DATA: it is that of the last of the node's writes that names the entry
-pub record Configures (image : Image) (node : ℕ) (place : ℕ × ℕ) (bytes : List ℕ) : Type 0 where
-  pub number : ℕ
-  pub write : Write
-  pub is_write : IsWrite image node number write
-  pub is_reached : HasWritesUpTo image node number
-  pub names : place_of write ≡ place
-  pub gives : write.bytes ≡ bytes
-  pub is_last : (later : ℕ) (other : Write) → number < later → HasWritesUpTo image node later
-      → IsWrite image node later other → place_of other ≢ place
 
 -- of a list of writes the last that names the entry has this data
 pub record IsLastIn (writes : List Write) (place : ℕ × ℕ) (bytes : List ℕ) : Type 0 where

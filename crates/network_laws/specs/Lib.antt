@@ -12,3 +12,4 @@ pub mod Leaves
 pub mod Own
 pub mod Requests
 pub mod Steps
+pub mod Since

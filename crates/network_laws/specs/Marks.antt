@@ -9,6 +9,7 @@ use Rattle.network_laws.specs.Reads.{at_delivery}
 use Rattle.can_bus.specs.Spans.{bus_at}
 use Rattle.can_bus.specs.Bus.{Bus, after_window_start, ended_slot}
 use Rattle.can_bus.specs.declared.slot.Slot.{Slot}
+use Rattle.can_frame.specs.Senders.{device_sender}
 use Rattle.co_device.specs.Device.{Device}
 use Rattle.image_parts.specs.Contents.{Image}
 use Rattle.co_scenario.specs.declared.step.Step.{Step}
@@ -64,7 +65,8 @@ writes_of_events image t (step ∷ steps) nodes =
 
 -- those of the frame that is delivered, at each device but its sender
 abbrev pub written_by_frame : Image → ℕ → Slot → Device → List Written
-written_by_frame image t slot d = if d.number == slot.sender then [] else writes_of_frame image t slot.frame d
+written_by_frame image t slot d =
+    if device_sender d.number == slot.sender then [] else writes_of_frame image t slot.frame d
 
 abbrev pub writes_of_delivery : Image → ℕ → Option Slot → List Device → List Written
 writes_of_delivery image t None ds = []

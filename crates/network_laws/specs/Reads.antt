@@ -5,6 +5,7 @@ use Rattle.image_parts.specs.Asking.{outcome}
 use Rattle.bus_devices.specs.Steps.{steps_due}
 use Rattle.can_frame.specs.Frames.{BaseFrame}
 use Rattle.can_frame.specs.Identifiers.{nmt_id, sdo_answer_id, sdo_request_id}
+use Rattle.can_frame.specs.Senders.{device_sender, manager_sender}
 use Rattle.co_device.specs.Device.{Device, is_in}
 use Rattle.cia301.specs.declared.nmt_state.NmtState.TheVariants.{Operational, Stopped}
 use Rattle.image_parts.specs.Contents.{Image, identity_of}
@@ -28,7 +29,7 @@ use Rattle.manager_nodes.specs.Table.{node_at}
 use Rattle.manager_nodes.specs.declared.booting.Booting.{Booting}
 use Rattle.node_boot.specs.Boot.{is_as_expected, next_compared}
 use Rattle.node_boot.specs.declared.boot_stage.BootStage.{BootStage}
-use Rattle.node_boot.specs.declared.boot_stage.BootStage.TheVariants.{Unseen, Comparing, Writing, Configured, Failed}
+use Rattle.node_boot.specs.declared.boot_stage.BootStage.TheVariants.{Unseen, Comparing, Writing, Configured, Failed, Own}
 use Rattle.can_bus.specs.Bus.{Bus, ended_slot, after_events, after_window_start}
 use Rattle.can_bus.specs.declared.slot.Slot.{Slot}
 use Rattle.network_laws.specs.Boots.{IsBootUpOf, IsConfirmedBy}
@@ -99,6 +100,7 @@ AsksForWrite node slot (Comparing place expected transfer deadline) j =
 AsksForWrite node slot (Writing place transfer deadline) j = (j ≡ place + 1) × IsConfirmedBy node transfer (Some slot)
 AsksForWrite node slot Configured j = ⊥
 AsksForWrite node slot Failed j = ⊥
+AsksForWrite node slot Own j = ⊥
 
 -- or the first at once, by a boot-up message of a node of which no number is expected
 abbrev pub AsksForWriteNow : Image → Slot → Booting → ℕ → Type 0
@@ -122,12 +124,12 @@ abbrev pub IsReadByEvents : List TimedStep → Part → Type 0
 IsReadByEvents due part = (node : ℕ)
     × (IsOwnPart node part × ((step : TimedStep) × (Contains due step × (step.step ≡ Power node true))))
 
--- a device with power, or the manager, reads it of the frame; not the node that sends it
+-- a device with power, or the manager, reads it of the frame; not the one that sends it
 abbrev pub IsReadAtDelivery : Image → Slot → Bus → Part → Type 0
 IsReadAtDelivery image slot s part =
     ((d : Device) × (Contains s.devices d
-    × ((d.number ≢ slot.sender) × ((d.has_power ≡ true) × IsReadByDevice slot.frame d part))))
-    ⊎ ((s.manager.number ≢ slot.sender) × IsReadByManager image slot s.manager part)
+    × ((device_sender d.number ≢ slot.sender) × ((d.has_power ≡ true) × IsReadByDevice slot.frame d part))))
+    ⊎ ((manager_sender s.manager.number ≢ slot.sender) × IsReadByManager image slot s.manager part)
 
 -- the bus of the instant once its events have run
 abbrev pub at_delivery : Image → ℕ → Bus → Bus

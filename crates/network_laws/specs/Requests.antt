@@ -1,5 +1,6 @@
 -- The SDO requests of the manager to a node, and what a rule of the manager makes of them and of the node's boot.
-use Rattle.std.specs.Prelude.{◌≡◌, ℕ, ◌<◌, List, ◌++◌, All, filter, length, map}
+use Rattle.std.specs.Prelude.{◌≡◌, ◌≢◌, ℕ, ◌<◌, ◌==◌, List, [], ◌∷◌, ◌++◌, All, filter, length, map}
+use Rattle.std.specs.List.{AllByRecursion}
 use Rattle.can_frame.specs.ErrorControl.{IsBootUp}
 use Rattle.can_frame.specs.Frames.{BaseFrame}
 use Rattle.can_frame.specs.Identifiers.{error_control_id, nmt_id, sdo_request_id, sync_id, time_id}
@@ -9,7 +10,7 @@ use Rattle.can_frame.specs.declared.purpose.Purpose.TheVariants.{BootUp, Emergen
 use Rattle.can_frame.specs.declared.unwanted.Unwanted.TheVariants.{SdoOf}
 use Rattle.can_frame.specs.declared.waiting.Waiting.{Waiting}
 use Rattle.nmt_boot.specs.Manager.{Manager}
-use Rattle.manager_nodes.specs.Table.{node_at, sdo_frames}
+use Rattle.manager_nodes.specs.Table.{is_own, node_at, sdo_frames}
 use Rattle.manager_nodes.specs.declared.booting.Booting.{Booting}
 use Rattle.node_boot.specs.declared.boot_step.BootStep.{BootStep}
 use Rattle.cia301.specs.Limits.{IsNodeNumber}
@@ -30,21 +31,29 @@ numbers_of nodes = map (λ node. node.number) nodes
 
 -- ---- the frames of the manager by what they are for
 
--- a frame of the manager of this number for a purpose: an SDO request has the identifier of its node
-abbrev pub IsManagersFrame : ℕ → Purpose → BaseFrame → Type 0
-IsManagersFrame number BootUp frame = IsBootUp number frame
-IsManagersFrame number Heartbeat frame = frame.id ≡ error_control_id number
-IsManagersFrame number (Tpdo k) frame = ⊥
-IsManagersFrame number (Sdo node) frame = IsNodeNumber node × (frame.id ≡ sdo_request_id node)
-IsManagersFrame number Emergency frame = ⊥
-IsManagersFrame number Sync frame = frame.id ≡ sync_id
-IsManagersFrame number Time frame = frame.id ≡ time_id
-IsManagersFrame number Nmt frame = frame.id ≡ nmt_id
+-- no node of these numbers is the manager's own
+abbrev pub AreOthers : ℕ → List ℕ → Type 0
+AreOthers number nodes = AllByRecursion (λ node. node ≢ number) nodes
 
--- EACH FRAME THAT WAITS AT THE MANAGER IS ITS OWN, and its nodes have numbers of nodes
+-- a frame of the manager of this number, with nodes of these, for a purpose: its boot-up message, where no node is its
+-- own, which would send it; a heartbeat, no boot-up message; and an SDO request to another node, with that identifier
+abbrev pub IsManagersFrame : ℕ → List ℕ → Purpose → BaseFrame → Type 0
+IsManagersFrame number nodes BootUp frame = IsBootUp number frame × AreOthers number nodes
+IsManagersFrame number nodes Heartbeat frame = (frame.id ≡ error_control_id number) × (frame.bytes ≢ 0 ∷ [])
+IsManagersFrame number nodes (Tpdo k) frame = ⊥
+IsManagersFrame number nodes (Sdo node) frame =
+    IsNodeNumber node × ((node ≢ number) × (frame.id ≡ sdo_request_id node))
+IsManagersFrame number nodes Emergency frame = ⊥
+IsManagersFrame number nodes Sync frame = frame.id ≡ sync_id
+IsManagersFrame number nodes Time frame = frame.id ≡ time_id
+IsManagersFrame number nodes Nmt frame = frame.id ≡ nmt_id
+
+-- EACH FRAME THAT WAITS AT THE MANAGER IS ITS OWN; its nodes have numbers of nodes, and the one of its number, and no
+-- other, is its own node
 pub record HasManagerFrames (m : Manager) : Type 0 where
-  pub frames : All (λ w. IsManagersFrame m.number w.purpose w.frame) m.waiting
+  pub frames : All (λ w. IsManagersFrame m.number (numbers_of m.nodes) w.purpose w.frame) m.waiting
   pub nodes : All (λ node. IsNodeNumber node.number) m.nodes
+  pub own : All (λ node. is_own node.stage ≡ (node.number == m.number)) m.nodes
 
 -- the manager has the number that it had, and its nodes have theirs
 pub record StaysManager (m after : Manager) : Type 0 where

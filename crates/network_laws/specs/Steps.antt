@@ -8,7 +8,7 @@ use Rattle.sdo_client.specs.declared.progress.Progress.{Progress}
 use Rattle.sdo_client.specs.declared.progress.Progress.TheVariants as progress
 use Rattle.node_boot.specs.Boot.{no_step, request_sent, write_started}
 use Rattle.node_boot.specs.declared.boot_stage.BootStage.{BootStage}
-use Rattle.node_boot.specs.declared.boot_stage.BootStage.TheVariants.{Unseen, Comparing, Writing, Configured, Failed}
+use Rattle.node_boot.specs.declared.boot_stage.BootStage.TheVariants.{Unseen, Comparing, Writing, Configured, Failed, Own}
 use Rattle.node_boot.specs.declared.boot_step.BootStep.{BootStep}
 
 -- the write of this number is started, or the boot is completed where there is none
@@ -22,6 +22,7 @@ ComparesOrWrites image deadline node step (Comparing place expected transfer mom
 ComparesOrWrites image deadline node step (Writing place transfer moment) = StartsWrite image deadline node 0 step
 ComparesOrWrites image deadline node step Configured = StartsWrite image deadline node 0 step
 ComparesOrWrites image deadline node step Failed = Unit {0}
+ComparesOrWrites image deadline node step Own = ⊥
 
 -- what the progress of the client makes of write j: it is confirmed and the next is started; it goes on by another
 -- request; it fails; or it stays
@@ -44,3 +45,4 @@ FollowsAnswer image deadline node answer step (Writing j transfer old) =
     WritesOn image deadline old node j (after_answer transfer answer).stage (after_answer transfer answer).progress step
 FollowsAnswer image deadline node answer step Configured = step ≡ no_step Configured
 FollowsAnswer image deadline node answer step Failed = step ≡ no_step Failed
+FollowsAnswer image deadline node answer step Own = step ≡ no_step Own

@@ -1,6 +1,6 @@
 //! Laws of the SDO frames between the manager and a node that boots, each a function whose contract is the law.
 
-ghost use Rattle.std.specs.Prelude.{◌≡◌, ◌⊎◌, ◌+◌, ℕ, List, [], All, remove};
+ghost use Rattle.std.specs.Prelude.{◌≡◌, ◌⊎◌, ◌+◌, ℕ, List, [], All, false, remove, true};
 ghost use Rattle.image_parts.specs.Asking.{outcome};
 ghost use Rattle.network_laws.specs.Requests.{HasManagerFrames, IsAlone, LeavesBoot};
 ghost use Rattle.can_frame.specs.ErrorControl.{IsBootUp};
@@ -13,13 +13,13 @@ ghost use Rattle.image_parts.specs.Contents.{Image};
 ghost use Rattle.image_parts.specs.declared.roster.Roster.{Roster};
 ghost use Rattle.co_scenario.specs.declared.nmt_command.NmtCommand.{NmtCommand};
 ghost use Rattle.nmt_boot.specs.Manager.{Manager, after_frame, manager_at_power_on, timers, with_command};
-ghost use Rattle.manager_nodes.specs.Table.{node_at};
+ghost use Rattle.manager_nodes.specs.Table.{is_own, node_at};
 ghost use Rattle.node_boot.specs.Boot.{boot_nmt_slave, sdo_answer};
 ghost use Rattle.node_boot.specs.declared.boot_stage.BootStage.{BootStage as staged};
 ghost use Rattle.node_boot.specs.declared.boot_stage.BootStage.TheVariants as stage;
 
 /// Every frame that waits at the manager has the identifier of its purpose: the manager alone has SDO requests, each
-/// to a node, and none of its frames is an SDO answer or the boot-up message of a node.
+/// to a node other than its own, and none of its frames is an SDO answer or the boot-up message of a node.
 pub fn each_frame_of_the_manager_is_its_own()
     ensures power { (roster : Roster) → All IsNodeNumber roster.nodes → HasManagerFrames (manager_at_power_on roster) }
     ensures command { (c : NmtCommand) (node : ℕ) (m : Manager) → HasManagerFrames m
@@ -41,12 +41,16 @@ pub fn the_manager_stays_itself()
 {}
 
 /// A boot-up message of a node begins its boot anew: the requests to it that wait are dropped, and the first request of
-/// the boot alone waits, if it has one.
+/// the boot alone waits, if it has one. That of the manager's own node begins none: its stage stays, and no request to
+/// it comes.
 pub fn a_boot_up_message_drops_the_requests_that_wait()
-    ensures { (image : Image) (t : ℕ) (frame : BaseFrame) (m : Manager) (i : ℕ) → IsAlone m.nodes i
-        → IsBootUp (node_at m.nodes i).number frame
+    ensures others { (image : Image) (t : ℕ) (frame : BaseFrame) (m : Manager) (i : ℕ) → IsAlone m.nodes i
+        → is_own (node_at m.nodes i).stage ≡ false → IsBootUp (node_at m.nodes i).number frame
         → TakesStep i (outcome (boot_nmt_slave (t + m.timeout) (node_at m.nodes i).number) image) []
         m (outcome (after_frame t frame m) image).0 }
+    ensures own { (image : Image) (t : ℕ) (frame : BaseFrame) (m : Manager) (i : ℕ) → IsAlone m.nodes i
+        → is_own (node_at m.nodes i).stage ≡ true → IsBootUp (node_at m.nodes i).number frame
+        → LeavesBoot i m (outcome (after_frame t frame m) image).0 }
 {}
 
 /// Any other frame is an SDO answer of the node, and its boot takes a step by it; or it leaves the boot and the

@@ -13,6 +13,7 @@ ghost use Rattle.can_bus.specs.Runs.{is_shown, power_on_reads, run, trace, windo
 ghost use Rattle.can_bus.specs.Runs.{IsNextWindow, IsSettled, StartsWith};
 ghost use Rattle.can_bus.specs.declared.line.Line.{Line as Told};
 ghost use Rattle.can_bus.specs.declared.slot.Slot.{Slot as Sent};
+ghost use Rattle.can_frame.specs.Senders.{device_sender};
 ghost use Rattle.can_frame.specs.declared.contender.Contender.{Contender as Bid};
 ghost use Rattle.can_frame.specs.declared.waiting.Waiting.{Waiting as Queued};
 ghost use Rattle.co_device.specs.Device.{Device};
@@ -98,10 +99,11 @@ pub fn the_winner_starts()
         → (c : Bid) × ((w : Queued) × StartsWith t s slot c w) }
 {}
 
-/// A frame isn't delivered to the node that sends it.
+/// A frame isn't delivered to the device that sends it.
 #[tactic(auto, using(can_bus::proofs::ReadLemmas::own_frame_unheard))]
 pub fn no_device_hears_its_own_frame()
-    ensures { (t : ℕ) (slot : Sent) (d : Device) → d.number ≡ slot.sender → hears t (delivered_of slot) d ≡ Answer d }
+    ensures { (t : ℕ) (slot : Sent) (d : Device) → device_sender d.number ≡ slot.sender
+        → hears t (delivered_of slot) d ≡ Answer d }
 {}
 
 /// Windows start at the whole multiples of 10,000 microseconds, and at no other moment. Where one starts, its

@@ -1,7 +1,7 @@
 //! What the files say is what the devices hold: laws of the runs of a bus, each a function whose contract is the law.
 
-ghost use Rattle.std.specs.Prelude.{◌≡◌, ◌⊎◌, ◌↔◌, ◌+◌, ◌<◌, ◌++◌, ◌∷◌, ℕ, false, All, Contains, List, length};
-ghost use Rattle.std.specs.Prelude.{slice_get};
+ghost use Rattle.std.specs.Prelude.{◌≡◌, ◌⊎◌, ◌↔◌, ◌+◌, ◌<◌, ◌++◌, ◌∷◌, ◌≢◌, ℕ, true, false, All, Contains, List};
+ghost use Rattle.std.specs.Prelude.{length, slice_get};
 ghost use Rattle.image_parts.specs.Asking.{outcome};
 ghost use Rattle.network_laws.specs.Requests.{requests_to};
 ghost use Rattle.manager_nodes.specs.Table.{node_at};
@@ -10,16 +10,19 @@ ghost use Rattle.can_bus.specs.Spans.{bus_at};
 ghost use Rattle.can_bus.specs.Bus.{instant};
 ghost use Rattle.can_bus.specs.declared.line.Line.TheVariants as line;
 ghost use Rattle.co_device.specs.Device.{Device};
-ghost use Rattle.image_parts.specs.Contents.{Image, write_of};
+ghost use Rattle.image_parts.specs.Contents.{Image, roster_of, write_of};
 ghost use Rattle.image_parts.specs.Images.{IsImage};
 ghost use Rattle.concise_dcf.specs.Concise.{IsTextOf};
 ghost use Rattle.concise_dcf.specs.declared.write.Write.{Write};
 ghost use Rattle.network_laws.specs.Written.{Written};
 ghost use Rattle.network_laws.specs.Exchanges.{Exchanges};
-ghost use Rattle.network_laws.specs.Files.{Configures, HasData, HasConfigured, IsExcepted, IsGivenBy, HasWritesUpTo};
-ghost use Rattle.network_laws.specs.Files.{IsUp, IsWrite};
+ghost use Rattle.image_parts.specs.Configured.{Configures, HasWritesUpTo, HoldsItsWrites, producer_time};
+ghost use Rattle.network_laws.specs.Files.{HasData, HasConfigured, IsExcepted, IsGivenBy};
+ghost use Rattle.image_parts.specs.Configured.{IsWrite};
+ghost use Rattle.network_laws.specs.Files.{IsUp};
 ghost use Rattle.concise_dcf.specs.Writes.{place_of};
 ghost use Rattle.network_laws.specs.Marks.{MarkedEntries, after_writes, is_marking, is_write_of, marks_at};
+ghost use Rattle.network_laws.specs.Since.{marks_since};
 ghost use Rattle.nmt_boot.specs.Ends.{configured_note};
 
 use image_parts::Part;
@@ -86,4 +89,17 @@ pub fn a_node_that_is_noted_configured_holds_its_files()
         → IsUp (bus_at image (t + 1)) node d
         → (place : ℕ × ℕ) (bytes : List ℕ) → Configures image node place bytes
         → IsExcepted (marks_at image (t + 1) node) place ⊎ HasData d.values place bytes }
+{}
+
+/// THE CONTROLLER HOLDS ITS FILES BY ITSELF. Under every image by which the device that the manager runs in holds its
+/// writes, and at every moment of its run: that device has power, and holds at every entry that its writes name, but
+/// for its producer heartbeat time, the data of the last write there. Excepted are the error register, and the entries
+/// that an event or an RPDO wrote since the device last took its defaults.
+pub fn the_controller_holds_its_files_by_itself()
+    ensures { (image : Image) → IsImage image → HoldsItsWrites image (roster_of (image Part.Roster)).manager
+        → (t : ℕ) (d : Device) → Contains (bus_at image t).devices d
+        → d.number ≡ (roster_of (image Part.Roster)).manager
+        → (d.has_power ≡ true) × ((place : ℕ × ℕ) (bytes : List ℕ) → place ≢ producer_time
+        → Configures image d.number place bytes
+        → IsExcepted (marks_since image t d.number) place ⊎ HasData d.values place bytes) }
 {}

@@ -5,12 +5,14 @@ ghost use Rattle.image_parts.specs.Agenda.{IsSameUnder};
 ghost use Rattle.image_parts.specs.Asking.{outcome, turns};
 ghost use Rattle.network_laws.specs.Boots.{FollowsWrite, IsBootUpOf};
 ghost use Rattle.can_bus.specs.Spans.{bus_at, span};
-ghost use Rattle.network_laws.specs.Starts.{but_for_frames, LeavesItsList};
+ghost use Rattle.network_laws.specs.Starts.{but_for_frames, LeavesItsList, StartsConfigured};
+ghost use Rattle.network_laws.specs.Reads.{at_delivery};
 ghost use Rattle.can_bus.specs.Bus.{ended_slot, instant, waiting_lists, power_on, after_arbitration, Bus};
 ghost use Rattle.can_bus.specs.Runs.{run, StartsWith};
 ghost use Rattle.can_bus.specs.declared.slot.Slot.{Slot as Sent};
 ghost use Rattle.can_frame.specs.Identifiers.{time_id};
 ghost use Rattle.can_frame.specs.declared.contender.Contender.{Contender as Bid};
+ghost use Rattle.can_frame.specs.declared.purpose.Purpose.TheVariants.{Nmt};
 ghost use Rattle.can_frame.specs.declared.waiting.Waiting.{Waiting as Queued};
 ghost use Rattle.image_parts.specs.Contents.{roster_of, Image};
 ghost use Rattle.image_parts.specs.Images.{IsImage};
@@ -22,7 +24,7 @@ ghost use Rattle.nmt_boot.specs.Stamps.{IsStampBefore, TellsWhenDue};
 ghost use Rattle.nmt_boot.specs.declared.periodic_message.PeriodicMessage.{PeriodicMessage as Message};
 ghost use Rattle.nmt_boot.specs.declared.periodic_message.PeriodicMessage.TheVariants.{Heartbeat, Sync, Time};
 ghost use Rattle.manager_nodes.specs.Table.{all_configured, node_at};
-ghost use Rattle.image_parts.specs.declared.start_mode.StartMode.TheVariants.{EachNode};
+ghost use Rattle.image_parts.specs.declared.start_mode.StartMode.TheVariants.{ConfiguredNodes, EachNode};
 ghost use Rattle.node_boot.specs.Boot.{deadline_of};
 ghost use Rattle.node_boot.specs.declared.boot_stage.BootStage.TheVariants as stage;
 
@@ -115,4 +117,14 @@ pub fn a_boot_goes_on_write_by_write()
         → deadline_of (node_at s.manager.nodes i).stage ≡ None
         → ((node_at (outcome (instant t s) image).0.manager.nodes i).stage ≡ (node_at s.manager.nodes i).stage)
         ⊎ IsBootUpOf (node_at s.manager.nodes i).number (ended_slot t s.wire) }
+{}
+
+/// Where the manager starts configured nodes one by one, no node is started before it is configured: each NMT command
+/// that waits at the manager behind an instant waited there before the frame of that instant was delivered, as what
+/// events command does, or it is the start of a node that is configured then, or of the one that the manager runs in.
+pub fn no_node_is_started_before_it_is_configured()
+    ensures { (image : Image) → (roster_of (image part.Roster)).start_mode ≡ ConfiguredNodes → (t : ℕ) (w : Queued)
+        → Contains (bus_at image (t + 1)).manager.waiting w → w.purpose ≡ Nmt
+        → Contains (at_delivery image t (bus_at image t)).manager.waiting w
+        ⊎ StartsConfigured (bus_at image (t + 1)).manager.nodes w }
 {}

@@ -189,7 +189,8 @@ module _ (network : Roster) where
   pub frame_on_time : (image : Image) (t : ℕ) (frame : BaseFrame) (m : Manager) → IsOnTime network t m
       → IsOnTime network t (outcome (after_frame t frame m) image).0
   frame_on_time image t frame m h =
-      received_holds image t frame m (λ r read. IsOnTime network t r.0) h (λ i e. h) (λ i e. h)
+      received_holds image t frame m (λ r read. IsOnTime network t r.0) h (λ i e o. h) (λ i e o. h)
+      (λ i e. h)
 
 -- ---- what is due
 

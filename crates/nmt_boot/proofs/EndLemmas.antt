@@ -10,7 +10,7 @@ use Rattle.image_parts.specs.declared.part.Part.{Part}
 use Rattle.node_boot.proofs.EndLemmas.{Ends, boot_ends, answer_ends}
 use Rattle.node_boot.specs.Ends.{IsAbsent}
 use Rattle.node_boot.specs.declared.boot_stage.BootStage.{BootStage}
-use Rattle.node_boot.specs.declared.boot_stage.BootStage.TheVariants.{Unseen, Comparing, Writing, Configured, Failed}
+use Rattle.node_boot.specs.declared.boot_stage.BootStage.TheVariants.{Unseen, Comparing, Writing, Configured, Failed, Own}
 use Rattle.node_boot.specs.declared.boot_step.BootStep.{BootStep}
 use Rattle.node_boot.specs.declared.note_kind.NoteKind.{NoteKind}
 use Rattle.node_boot.specs.declared.note_kind.NoteKind.TheVariants as kind
@@ -50,6 +50,7 @@ lost_only (Comparing place expected transfer deadline) e = cc
 lost_only (Writing place transfer deadline) e = cc
 lost_only Configured e = cc
 lost_only Failed e = cc
+lost_only Own e = cc
 
 -- ---- the manager
 
@@ -76,7 +77,8 @@ module _ (image : Image) (t : ℕ) (frame : BaseFrame) (m : Manager) (node : ℕ
   pub frame_ends : Told (outcome (after_frame t frame m) image) (reads (after_frame t frame m) image)
   frame_ends = received_holds image t frame m Told
       (λ h. absurd (none_in (configured_note node) h))
-      (λ i e h. begun_ends (node_at m.nodes i).number (node_at m.nodes i).stage _
+      (λ i e o h. absurd (none_in (configured_note node) h))
+      (λ i e o h. begun_ends (node_at m.nodes i).number (node_at m.nodes i).stage _
       (boot_ends image (node_at m.nodes i).number (t + m.timeout)) h)
       (λ i e h. turned_ends (node_at m.nodes i).number _ (answer_ends image (node_at m.nodes i).number (t + m.timeout)
       (node_at m.nodes i).stage frame.bytes) h)

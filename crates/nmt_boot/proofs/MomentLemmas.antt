@@ -206,7 +206,8 @@ frame_ahead image t frame m h =
     let from = from_ahead t m h in
     ahead_from t (outcome (after_frame t frame m) image).0
     (received_holds image t frame m (λ r read. IsFrom t r.0) from
-    (λ i e. record {
+    (λ i e o. record { periodic = from.periodic; nodes = from.nodes })
+    (λ i e o. record {
       periodic = from.periodic;
       nodes = stage_from t i m.nodes _ from.nodes (boot_from image t (t + m.timeout)
           (node_at m.nodes i).number (omega arith));

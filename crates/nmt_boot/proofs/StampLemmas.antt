@@ -1,11 +1,12 @@
 -- Each TIME that waits tells when it was due.
 use Rattle.std.proofs.Common.{◌≡◌, ℕ, suc, ◌+◌, Bool, true, false, List, [], ◌∷◌, ◌++◌, Option, Some, None, All}
 use Rattle.std.proofs.Common.{refl, sym, ap, subst, arith}
-use Rattle.std.specs.Prelude.{drop, if◌then◌else◌, remove, take}
+use Rattle.std.specs.Prelude.{◌||◌, drop, if◌then◌else◌, remove, take}
 use Rattle.std.specs.List.{AllByRecursion, AllZip}
 use Rattle.std.proofs.lemmas.List.Elements.{All-append, All-cons, All-drop, All-filter, All-head, All-nil, All-tail, All-take}
 use Rattle.std.proofs.lemmas.List.Elements.{All-weaker}
 use Rattle.base.specs.Moments.{is_due}
+use Rattle.can_frame.specs.ErrorControl.{boot_up_message}
 use Rattle.can_frame.specs.Frames.{BaseFrame}
 use Rattle.can_frame.specs.WaitingFrames.{is_same, waiting, with_latest, without_unwanted}
 use Rattle.can_frame.specs.declared.purpose.Purpose.{Purpose}
@@ -15,10 +16,11 @@ use Rattle.can_frame.specs.declared.waiting.Waiting.{Waiting}
 use Rattle.co_scenario.specs.declared.nmt_command.NmtCommand.{NmtCommand}
 use Rattle.image_parts.specs.Asking.{outcome}
 use Rattle.image_parts.specs.Contents.{Image}
+use Rattle.image_parts.specs.Rosters.{has_controller}
 use Rattle.image_parts.specs.declared.roster.Roster.{Roster}
 use Rattle.image_parts.specs.declared.start_mode.StartMode.{StartMode}
 use Rattle.image_parts.specs.declared.start_mode.StartMode.TheVariants.{ConfiguredNodes, EachNode, WholeNetwork}
-use Rattle.manager_nodes.specs.Table.{has_booted, node_at, queue_after_time_outs, sdo_frames, timed_out, with_stage}
+use Rattle.manager_nodes.specs.Table.{has_booted, is_own, node_at, queue_after_time_outs, sdo_frames, timed_out, with_stage}
 use Rattle.manager_nodes.specs.declared.booting.Booting.{Booting}
 use Rattle.node_boot.specs.Boot.{sdo_time_out}
 use Rattle.node_boot.specs.declared.boot_step.BootStep.{BootStep}
@@ -31,7 +33,7 @@ use Rattle.nmt_boot.specs.Manager.{Manager, after_frame, after_step, manager_at_
 use Rattle.nmt_boot.specs.Periodic.{frame_of, messages_of, period_of, purpose_of, queue_after, queue_after_one}
 use Rattle.nmt_boot.specs.Stamps.{IsStampBefore, TellsWhenDue}
 use Rattle.nmt_boot.specs.Startup.{Startup, frames_of_configured, network_start_frames, start_frames, start_of, starts_each}
-use Rattle.nmt_boot.specs.Startup.{starts_network, starts_of_configured}
+use Rattle.nmt_boot.specs.Startup.{own_start, starts_network, starts_with_network}
 use Rattle.nmt_boot.specs.TimeOfDay.{time_frame}
 use Rattle.nmt_boot.specs.declared.periodic.Periodic.{Periodic}
 use Rattle.nmt_boot.specs.declared.periodic_message.PeriodicMessage.{PeriodicMessage}
@@ -61,19 +63,27 @@ module _ (network : Roster) (t : ℕ) where
   requests_tell node None = All-nil Tells
   requests_tell node (Some bytes) = one _ (request_is_none node _)
 
-  configured_tell : (nodes : List Booting) → AllTell (starts_of_configured nodes)
+  configured_tell : (nodes : List Booting) → AllTell (starts_with_network nodes)
   configured_tell [] = All-nil Tells
-  configured_tell (node ∷ nodes) = by (has_booted node.stage) (configured_tell nodes)
+  configured_tell (node ∷ nodes) = by (has_booted node.stage || is_own node.stage) (configured_tell nodes)
     where
-      by : (b : Bool) → AllTell (starts_of_configured nodes)
-          → AllTell ((if b then start_of node.number else []) ++ starts_of_configured nodes)
-      by true rest = more (start_of node.number) (starts_of_configured nodes) (one _ (command_is_none _)) rest
+      by : (b : Bool) → AllTell (starts_with_network nodes)
+          → AllTell ((if b then start_of node.number else []) ++ starts_with_network nodes)
+      by true rest = more (start_of node.number) (starts_with_network nodes) (one _ (command_is_none _)) rest
       by false rest = rest
 
   network_tell : (mode : StartMode) (nodes : List Booting) → AllTell (network_start_frames mode nodes)
   network_tell EachNode nodes = All-nil Tells
   network_tell WholeNetwork nodes = one _ (command_is_none _)
   network_tell ConfiguredNodes nodes = configured_tell nodes
+
+  own_tells : (startup : Startup) (node : ℕ) → AllTell (own_start startup node)
+  unfolding own_start
+  own_tells startup node = by startup.is_started
+    where
+      by : (b : Bool) → AllTell (if b then start_of node else [])
+      by true = one _ (command_is_none _)
+      by false = All-nil Tells
 
   starts_tell : (startup : Startup) (nodes : List Booting) (node : ℕ) (note : Option NoteKind)
       → AllTell (start_frames startup nodes node note)
@@ -179,7 +189,12 @@ later network t ws h = All-weaker (Tells network t) (Tells network (t + 1)) stil
 module _ (network : Roster) where
   pub first_tells : TellsWhenDue network 0 (manager_at_power_on network)
   unfolding manager_at_power_on
-  first_tells = one network 0 _ (λ e. cc)
+  first_tells = by (has_controller network)
+    where
+      by : (b : Bool)
+          → AllTell network 0 (if b then [] else waiting purpose.BootUp (boot_up_message network.manager) ∷ [])
+      by true = All-nil (Tells network 0)
+      by false = one network 0 _ (λ e. cc)
 
   pub command_tells : (t : ℕ) (command : NmtCommand) (node : ℕ) (m : Manager) → TellsWhenDue network t m
       → TellsWhenDue network t (with_command command node m)
@@ -198,7 +213,8 @@ module _ (network : Roster) where
       → TellsWhenDue network t (outcome (after_frame t frame m) image).0
   frame_tells image t frame m h =
       received_holds image t frame m (λ r read. TellsWhenDue network t r.0) h
-      (λ i e. stepped_tells t m i _ _ (dropped_tell network t (node_at m.nodes i).number m.waiting h))
+      (λ i e o. more network t m.waiting _ h (own_tells network t m.startup (node_at m.nodes i).number))
+      (λ i e o. stepped_tells t m i _ _ (dropped_tell network t (node_at m.nodes i).number m.waiting h))
       (λ i e. stepped_tells t m i _ m.waiting h)
 
   pub timers_tell : (t : ℕ) (m : Manager) → IsOnTime network t m → TellsWhenDue network t m

@@ -8,7 +8,7 @@ use Rattle.std.proofs.lemmas.List.{length-append}
 use Rattle.std.proofs.lemmas.List.Elements.{filter-append}
 use Rattle.std.proofs.lemmas.List.Quantifiers.{position-Some}
 use Rattle.image_parts.specs.Asking.{outcome}
-use Rattle.manager_nodes.specs.Table.{all_configured, has_booted, is_from, no_node, node_after, node_at, place_of, queue_after_time_outs}
+use Rattle.manager_nodes.specs.Table.{all_configured, first_node, has_booted, is_from, is_own, no_node, node_after, node_at, place_of, queue_after_time_outs}
 use Rattle.manager_nodes.specs.Table.{sdo_frames, timed_out, unseen_node, with_stage}
 use Rattle.manager_nodes.specs.declared.booting.Booting.{Booting}
 use Rattle.can_frame.specs.Frames.{BaseFrame}
@@ -19,13 +19,15 @@ use Rattle.can_frame.specs.declared.purpose.Purpose.TheVariants.{BootUp, Heartbe
 use Rattle.can_frame.specs.declared.unwanted.Unwanted.TheVariants.{SdoOf}
 use Rattle.can_frame.specs.declared.waiting.Waiting.{Waiting}
 use Rattle.image_parts.specs.Contents.{Image}
-use Rattle.image_parts.specs.Images.{IsNode, IsRoster}
+use Rattle.image_parts.specs.Images.{IsRoster}
+use Rattle.cia301.specs.Limits.{IsNodeNumber}
 use Rattle.image_parts.specs.declared.roster.Roster.{Roster}
 use Rattle.image_parts.specs.declared.start_mode.StartMode.{StartMode}
 use Rattle.image_parts.specs.declared.start_mode.StartMode.TheVariants.{ConfiguredNodes, EachNode, WholeNetwork}
 use Rattle.co_scenario.specs.declared.nmt_command.NmtCommand.TheVariants.{Start}
 use Rattle.node_boot.specs.Boot.{is_timed_out, sdo_time_out}
 use Rattle.node_boot.specs.declared.boot_stage.BootStage.{BootStage}
+use Rattle.node_boot.specs.declared.boot_stage.BootStage.TheVariants.{Own}
 use Rattle.node_boot.specs.declared.boot_step.BootStep.{BootStep}
 use Rattle.node_boot.specs.declared.note_kind.NoteKind.{NoteKind}
 use Rattle.node_boot.specs.declared.note_kind.NoteKind.TheVariants as kind
@@ -36,8 +38,8 @@ use Rattle.nmt_boot.specs.Periodic.{frame_of, purpose_of, queue_after}
 use Rattle.nmt_boot.specs.declared.periodic.Periodic.{Periodic}
 use Rattle.nmt_boot.specs.declared.periodic_message.PeriodicMessage.{PeriodicMessage}
 use Rattle.nmt_boot.specs.declared.periodic_message.PeriodicMessage.TheVariants as periodic
-use Rattle.nmt_boot.specs.Startup.{by_mode, frames_of_configured, start_frames, start_of, starts_each, startup_after}
-use Rattle.nmt_boot.specs.Startup.{network_start_frames, nmt_frame, startup_of_configured, starts_of_configured}
+use Rattle.nmt_boot.specs.Startup.{Startup, by_mode, frames_of_configured, own_start, start_frames, start_of, starts_each, startup_after}
+use Rattle.nmt_boot.specs.Startup.{network_start_frames, nmt_frame, startup_of_configured, starts_with_network}
 use Rattle.nmt_boot.specs.Starts.{HasNodeNumbers, KeepsStart, StartsNetwork, is_network_start, network_starts}
 use Rattle.nmt_boot.specs.Starts.{starts_of_all}
 
@@ -183,19 +185,26 @@ later_above : (t : ℕ) (nodes : List Booting) → AreAbove nodes → AreAbove (
 later_above t [] h = h
 later_above t (node ∷ nodes) h = (one_above t node h.0, later_above t nodes h.1)
 
-unseen_above : (manager : ℕ) (numbers : List ℕ) → AllByRecursion (IsNode manager) numbers
-    → AreAbove (map unseen_node numbers)
-unseen_above manager [] h = tt
-unseen_above manager (n ∷ numbers) h = (h.0.0, unseen_above manager numbers h.1)
+one_first : (manager number : ℕ) → 1 ≤ number → 1 ≤ (first_node manager number).number
+one_first manager number h = by (number == manager)
+  where
+    by : (b : Bool) → 1 ≤ (if b then record { number = number; stage = Own } else unseen_node number).number
+    by true = h
+    by false = h
+
+first_above : (manager : ℕ) (numbers : List ℕ) → AllByRecursion IsNodeNumber numbers
+    → AreAbove (map (first_node manager) numbers)
+first_above manager [] h = tt
+first_above manager (n ∷ numbers) h = (one_first manager n h.0.0, first_above manager numbers h.1)
 
 pub numbers_first : (roster : Roster) → IsRoster roster → HasNodeNumbers (manager_at_power_on roster)
 unfolding manager_at_power_on
-numbers_first roster h = unseen_above roster.manager roster.nodes h.nodes
+numbers_first roster h = first_above roster.manager roster.nodes h.nodes
 
 pub numbers_of_frame : (image : Image) (t : ℕ) (frame : BaseFrame) (m : Manager) → HasNodeNumbers m
     → HasNodeNumbers (outcome (after_frame t frame m) image).0
 numbers_of_frame image t frame m h = received_holds image t frame m (λ r read. HasNodeNumbers r.0) h
-    (λ i e. stage_above m.nodes i _ h) (λ i e. stage_above m.nodes i _ h)
+    (λ i e o. h) (λ i e o. stage_above m.nodes i _ h) (λ i e. stage_above m.nodes i _ h)
 
 pub numbers_of_timers : (t : ℕ) (m : Manager) → HasNodeNumbers m → HasNodeNumbers (timers t m).0
 unfolding timers time_outs
@@ -217,13 +226,13 @@ all_at_once : network_starts (start_of 0) ≡ 1
 unfolding network_starts
 all_at_once = refl
 
-configured_starts : (nodes : List Booting) → AreAbove nodes → network_starts (starts_of_configured nodes) ≡ 0
+configured_starts : (nodes : List Booting) → AreAbove nodes → network_starts (starts_with_network nodes) ≡ 0
 configured_starts [] h = none_at_all
-configured_starts (node ∷ nodes) h = by (has_booted node.stage) (configured_starts nodes h.1)
+configured_starts (node ∷ nodes) h = by (has_booted node.stage || is_own node.stage) (configured_starts nodes h.1)
   where
-    by : (b : Bool) → network_starts (starts_of_configured nodes) ≡ 0
-        → network_starts ((if b then start_of node.number else []) ++ starts_of_configured nodes) ≡ 0
-    by true rest = starts_of_both (start_of node.number) (starts_of_configured nodes)
+    by : (b : Bool) → network_starts (starts_with_network nodes) ≡ 0
+        → network_starts ((if b then start_of node.number else []) ++ starts_with_network nodes) ≡ 0
+    by true rest = starts_of_both (start_of node.number) (starts_with_network nodes)
         ∙ rw (itself_alone node.number h.0, rest) refl
     by false rest = rest
 
@@ -259,7 +268,7 @@ module _ (m : Manager) (nodes : List Booting) (all_above : AreAbove nodes) (node
       → network_starts (ws ++ network_start_frames mode nodes) ≡ network_starts m.waiting + starts_of_all mode
   begun EachNode = queued [] 0 none_at_all
   begun WholeNetwork = queued (start_of 0) 1 all_at_once
-  begun ConfiguredNodes = queued (starts_of_configured nodes) 0 (configured_starts nodes all_above)
+  begun ConfiguredNodes = queued (starts_with_network nodes) 0 (configured_starts nodes all_above)
 
   stays : (record m.startup { is_started = m.startup.is_started || false }) ≡ m.startup
   stays = by m.startup.is_started
@@ -321,6 +330,16 @@ step_starts m i step ws h above e =
     (ws ++ sdo_frames (node_at m.nodes i).number step.request)
     (with_request (node_at m.nodes i).number step.request ws ∙ e) step.note
 
+-- that of the manager's own node is no start of the network
+own_starts : (startup : Startup) (node : ℕ) → 1 ≤ node → (ws : List Waiting)
+    → network_starts (ws ++ own_start startup node) ≡ network_starts ws
+unfolding own_start
+own_starts startup node above ws = by startup.is_started
+  where
+    by : (b : Bool) → network_starts (ws ++ (if b then start_of node else [])) ≡ network_starts ws
+    by true = starts_of_both ws (start_of node) ∙ rw (itself_alone node above) (omega arith)
+    by false = starts_of_both ws [] ∙ rw none_at_all (omega arith)
+
 found_above : (m : Manager) (base id i : ℕ) → HasNodeNumbers m → place_of base id m.nodes ≡ Some i
     → 1 ≤ (node_at m.nodes i).number
 unfolding place_of
@@ -330,7 +349,11 @@ pub frame_starts : (image : Image) (t : ℕ) (frame : BaseFrame) (m : Manager) �
     → KeepsStart m (outcome (after_frame t frame m) image).0 ⊎ StartsNetwork m (outcome (after_frame t frame m) image).0
 frame_starts image t frame m h = received_holds image t frame m (λ r read. Starts m r.0)
     (inl (record { startup = refl; waiting = refl }))
-    (λ i e. step_starts m i _ (without_unwanted (SdoOf (node_at m.nodes i).number) m.waiting) h
+    (λ i e o. inl (record {
+      startup = refl;
+      waiting = own_starts m.startup (node_at m.nodes i).number (found_above m (error_control_id 0) frame.id i h e) m.waiting;
+    }))
+    (λ i e o. step_starts m i _ (without_unwanted (SdoOf (node_at m.nodes i).number) m.waiting) h
     (found_above m (error_control_id 0) frame.id i h e)
     (dropped_starts (node_at m.nodes i).number m.waiting))
     (λ i e. step_starts m i _ m.waiting h (found_above m (sdo_answer_id 0) frame.id i h e) refl)

@@ -33,5 +33,6 @@ pub its_node_alone : (image : Image) (t : ℕ) (frame : BaseFrame) (m : Manager)
     → node_at (outcome (after_frame t frame m) image).0.nodes j ≡ node_at m.nodes j
 its_node_alone image t frame m j no_boot no_answer =
     received_holds image t frame m (λ r read. node_at r.0.nodes j ≡ node_at m.nodes j) refl
-    (λ i e. get_or-set_other m.nodes i j _ no_node (another (error_control_id 0) frame.id m.nodes i j e no_boot))
+    (λ i e o. refl)
+    (λ i e o. get_or-set_other m.nodes i j _ no_node (another (error_control_id 0) frame.id m.nodes i j e no_boot))
     (λ i e. get_or-set_other m.nodes i j _ no_node (another (sdo_answer_id 0) frame.id m.nodes i j e no_answer))

@@ -10,6 +10,7 @@ use Rattle.can_frame.specs.declared.purpose.Purpose.TheVariants.{BootUp, Nmt}
 use Rattle.can_frame.specs.declared.unwanted.Unwanted.TheVariants.{SdoOf}
 use Rattle.can_frame.specs.declared.waiting.Waiting.{Waiting}
 use Rattle.image_parts.specs.Contents.{Content}
+use Rattle.image_parts.specs.Rosters.{has_controller}
 use Rattle.base.specs.Moments.{earliest}
 use Rattle.image_parts.specs.declared.part.Part.{Part}
 use Rattle.image_parts.specs.declared.roster.Roster.{Roster}
@@ -17,12 +18,12 @@ use Rattle.co_scenario.specs.declared.nmt_command.NmtCommand.{NmtCommand}
 use Rattle.node_boot.specs.Boot.{boot_nmt_slave, sdo_answer}
 use Rattle.node_boot.specs.declared.note.Note.{Note}
 use Rattle.node_boot.specs.declared.boot_step.BootStep.{BootStep}
-use Rattle.manager_nodes.specs.Table.{unseen_node, node_at, place_of, with_stage, note_of_loss, notes_of, sdo_frames}
+use Rattle.manager_nodes.specs.Table.{first_node, is_own, node_at, place_of, with_stage, note_of_loss, notes_of, sdo_frames}
 use Rattle.manager_nodes.specs.Table.{deadlines, node_after, note_of_time_out, queue_after_time_outs, timed_out}
 use Rattle.manager_nodes.specs.declared.booting.Booting.{Booting}
 use Rattle.nmt_boot.specs.Periodic.{first_of, messages, messages_of, next_moments, periodic_after, queue_after, silent}
 use Rattle.nmt_boot.specs.declared.periodic.Periodic.{Periodic}
-use Rattle.nmt_boot.specs.Startup.{Startup, no_startup, startup_of, nmt_frame, start_frames, startup_after}
+use Rattle.nmt_boot.specs.Startup.{Startup, no_startup, own_start, startup_of, nmt_frame, start_frames, startup_after}
 use Rattle.can_frame.specs.ErrorControl.{boot_up_message}
 
 -- its number, the time-out in microseconds, what it sends periodically, when it starts nodes, the nodes by number with
@@ -49,6 +50,10 @@ blank = record {
   waiting = [];
 }
 
+-- the manager's own boot-up message; where it runs in the device of a node, that sends it
+abbrev pub first_waiting : Roster → List Waiting
+first_waiting roster = if has_controller roster then [] else waiting BootUp (boot_up_message roster.manager) ∷ []
+
 -- at time 0 no node was seen, nothing is started, and the manager's own boot-up waits; what is periodic comes at the
 -- whole multiples of its period above 0
 unfoldable pub manager_at_power_on : Roster → Manager
@@ -58,8 +63,8 @@ manager_at_power_on roster = record {
   timeout = 1000 * roster.timeout_ms;
   periodic = map (first_of roster) (messages_of roster);
   startup = startup_of roster;
-  nodes = map unseen_node roster.nodes;
-  waiting = waiting BootUp (boot_up_message roster.manager) ∷ [];
+  nodes = map (first_node roster.manager) roster.nodes;
+  waiting = first_waiting roster;
 }
 
 -- ---- commands of the network management
@@ -94,9 +99,14 @@ unfoldable pub after_boot_at : ℕ → ℕ → Manager → Asking Part Content (
 after_boot_at t i m = bind (boot_nmt_slave (t + m.timeout) (node_at m.nodes i).number)
     (λ step. Answer (after_boot_start i m step))
 
+-- that of the manager's own node: nothing is booted
+unfoldable pub after_own_boot_up : ℕ → Manager → Manager
+after_own_boot_up i m = record m { waiting = m.waiting ++ own_start m.startup (node_at m.nodes i).number }
+
 unfoldable pub after_boot_up : ℕ → Option ℕ → Manager → Asking Part Content (Manager × List Note)
 after_boot_up t None m = Answer (m, [])
-after_boot_up t (Some i) m = after_boot_at t i m
+after_boot_up t (Some i) m = if is_own (node_at m.nodes i).stage then Answer (after_own_boot_up i m, [])
+    else after_boot_at t i m
 
 -- ---- SDO answer of a node
 

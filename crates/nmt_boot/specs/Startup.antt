@@ -14,7 +14,7 @@ use Rattle.co_scenario.specs.declared.nmt_command.NmtCommand.{NmtCommand}
 use Rattle.co_scenario.specs.declared.nmt_command.NmtCommand.TheVariants.{Start}
 use Rattle.node_boot.specs.declared.note_kind.NoteKind.{NoteKind}
 use Rattle.node_boot.specs.declared.note_kind.NoteKind.TheVariants as kind
-use Rattle.manager_nodes.specs.Table.{all_configured, has_booted}
+use Rattle.manager_nodes.specs.Table.{all_configured, has_booted, is_own}
 use Rattle.manager_nodes.specs.declared.booting.Booting.{Booting}
 
 -- when it starts nodes, the numbers of the mandatory nodes, and whether it has started the network
@@ -54,19 +54,23 @@ nmt_frame command node = nmt_message (number_of command) node
 abbrev pub start_of : ℕ → List Waiting
 start_of node = waiting Nmt (nmt_frame Start node) ∷ []
 
--- that of a node, where it is configured
-abbrev pub start_if_configured : Booting → List Waiting
-start_if_configured node = if has_booted node.stage then start_of node.number else []
+-- that of a node which is started with the network: where it is configured, or the manager's own
+abbrev pub start_with_network : Booting → List Waiting
+start_with_network node = if has_booted node.stage || is_own node.stage then start_of node.number else []
 
 -- and of each of them, by number
-abbrev pub starts_of_configured : List Booting → List Waiting
-starts_of_configured nodes = flat_map start_if_configured nodes
+abbrev pub starts_with_network : List Booting → List Waiting
+starts_with_network nodes = flat_map start_with_network nodes
 
--- what starts the network: one command to all nodes, or one to each node that is configured
+-- what starts the network: one command to all nodes, or one to each node that is configured, and to the manager's own
 abbrev pub network_start_frames : StartMode → List Booting → List Waiting
 network_start_frames EachNode nodes = []
 network_start_frames WholeNetwork nodes = start_of 0
-network_start_frames ConfiguredNodes nodes = starts_of_configured nodes
+network_start_frames ConfiguredNodes nodes = starts_with_network nodes
+
+-- the manager's own node has booted up: where the network is started, it is started too
+unfoldable pub own_start : Startup → ℕ → List Waiting
+own_start startup node = if startup.is_started then start_of node else []
 
 -- a node is configured, and the nodes are these now
 unfoldable pub frames_of_configured : Startup → List Booting → ℕ → List Waiting

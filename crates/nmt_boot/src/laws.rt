@@ -136,9 +136,9 @@ pub fn waiting_time_stamps_tell_when_they_were_due()
 {}
 
 /// A frame leaves the start of the network as it is, or starts the network: as a whole by one command, or by one to each
-/// node that is configured, where that wasn't done before and each mandatory node is configured now. So that never
-/// happens where each node is started by itself, nor twice; and where configured nodes are started, no command goes to
-/// all. Timers start nothing, and a command of the scenario is none of the manager's own.
+/// node that is configured and to the manager's own, where that wasn't done before and each mandatory node is configured
+/// now. So that never happens where each node is started by itself, nor twice; and where configured nodes are started,
+/// no command goes to all. Timers start nothing, and a command of the scenario is none of the manager's own.
 #[tactic(auto, using(crate::proofs::StartLemmas::frame_starts, crate::proofs::StartLemmas::each_by_itself, crate::proofs::StartLemmas::at_most_once, crate::proofs::StartLemmas::timers_keep, crate::proofs::StartLemmas::none_of_all))]
 pub fn the_network_is_started_once()
     ensures frames { (image : Image) (t : ℕ) (frame : BaseFrame) (m : State) → HasNodeNumbers m

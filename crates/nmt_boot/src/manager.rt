@@ -3,6 +3,7 @@
 ghost use Rattle.std.specs.Prelude.{◌≡◌, ◌<◌, ◌*◌, ◌^◌, ◌++◌, ◌↔◌, Some, length, remove, slice_get, IfOk};
 ghost use Rattle.std.specs.Prelude.{IfSome, OnOk, OnErr, IsErr, IsTrue};
 ghost use Rattle.image_parts.specs.Record.{BeginsWith, Lasts};
+ghost use Rattle.can_frame.specs.Senders.{manager_sender as manager_sender_of};
 ghost use Rattle.can_frame.specs.Winner.{contenders_of, IsWinner};
 ghost use Rattle.nmt_boot.specs.TellsBy.{TellsBy};
 ghost use Rattle.nmt_boot.specs.Manager as rules;
@@ -10,9 +11,11 @@ ghost use Rattle.nmt_boot.specs.Manager as rules;
 use crate::periodic::{self, Periodic};
 use crate::periodic_message::MESSAGES;
 use crate::startup::Startup;
-use crate::telling::{send_command, tell};
+use crate::telling::{send_command, start_own, tell};
 use base::earlier;
-use can_frame::{Contender, Frame, Pending, Purpose, Unwanted, Waiting, identifiers};
+use can_frame::{
+    Contender, Frame, Pending, Purpose, Unwanted, Waiting, identifiers, manager_sender,
+};
 use co_scenario::NmtCommand;
 use image_parts::{END, Roster};
 use manager_nodes::{NodeTable, note};
@@ -72,6 +75,18 @@ fn microseconds(milliseconds: u16) -> u64
     1000 * u64::from(milliseconds)
 }
 
+/// What waits as the power comes on: the manager's own boot-up message, where it runs in no node.
+fn first_waiting(alloc: Global, roster: &Roster) -> Result<Pending, AllocError>
+    ensures { IfOk result (λ waiting. waiting ≡ rules.first_waiting roster.now) }
+{
+    let mut waiting = Pending::new(alloc);
+    if !roster.has_controller() {
+        let boot_up = Frame::of(identifiers::error_control(roster.manager), &[0]);
+        waiting.add(Purpose::BootUp, boot_up)?;
+    }
+    Ok(waiting)
+}
+
 impl Manager {
     /// A manager of no network. Takes no memory.
     pub fn new(alloc: Global) -> Manager
@@ -95,10 +110,8 @@ impl Manager {
         ensures { IfOk result (λ manager. manager ≡ rules.manager_at_power_on roster.now) }
     {
         let startup = Startup::of(alloc, roster)?;
-        let nodes = NodeTable::unseen(alloc, roster.nodes.as_slice())?;
-        let mut waiting = Pending::new(alloc);
-        let boot_up = Frame::of(identifiers::error_control(roster.manager), &[0]);
-        waiting.add(Purpose::BootUp, boot_up)?;
+        let nodes = NodeTable::of(alloc, roster.manager, roster.nodes.as_slice())?;
+        let waiting = first_waiting(alloc, roster)?;
         Ok(Manager {
             alloc,
             spent: false,
@@ -176,9 +189,9 @@ impl Manager {
     /// The frame with which it contends for the bus: the first of those waiting that have the least
     /// identifier. Takes constant time.
     pub fn contender(&self) -> Option<Contender>
-        ensures { IsWinner (contenders_of (self.now.number, self.now.waiting)) result }
+        ensures { IsWinner (contenders_of (manager_sender_of self.now.number, self.now.waiting)) result }
     {
-        self.waiting.contender(self.number)
+        self.waiting.contender(manager_sender(self.number))
     }
 
     /// Takes the waiting frame at a place for the bus; the others keep their order.
@@ -261,6 +274,16 @@ impl Manager {
         Ok(())
     }
 
+    /// The manager's own node has booted up.
+    #[tactic(auto, unfolding(crate::specs::Manager::after_own_boot_up))]
+    fn start_own(&mut self, i: usize) -> Result<(), AllocError>
+        requires { i < length self.now.nodes }
+        ensures { OnOk result (self.new ≡ rules.after_own_boot_up i self.old) }
+    {
+        let number = self.nodes.number_at(i);
+        start_own(&mut self.waiting, &self.startup, number)
+    }
+
     /// The boot-up of the node at a place of the table, if there is one.
     #[tactic(auto, unfolding(crate::specs::Manager::after_boot_up))]
     fn take_boot_up<P: Boots>(
@@ -279,6 +302,7 @@ impl Manager {
     {
         match place {
             None => Ok(()),
+            Some(i) if self.nodes.is_own(i) => self.start_own(i),
             Some(i) => self.boot_at(t, i, boots, notes),
         }
     }

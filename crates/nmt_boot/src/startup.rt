@@ -98,6 +98,13 @@ impl Startup {
         self.mode
     }
 
+    /// Whether the manager has started the network.
+    pub(crate) fn is_started(&self) -> bool
+        ensures { result ≡ self.now.is_started }
+    {
+        self.is_started
+    }
+
     /// Whether each node that is configured is started by itself.
     pub(crate) fn starts_each(&self) -> bool
         ensures { result ≡ rules.starts_each self.now }

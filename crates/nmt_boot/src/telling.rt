@@ -6,8 +6,8 @@ ghost use Rattle.manager_nodes.specs.Table.{notes_of, sdo_frames};
 ghost use Rattle.can_frame.specs.WaitingFrames.{waiting as queued};
 ghost use Rattle.can_frame.specs.declared.purpose.Purpose.TheVariants as purposes;
 ghost use Rattle.nmt_boot.specs.Startup.{nmt_frame as frame_of_command, start_frames, startup_after};
-ghost use Rattle.nmt_boot.specs.Startup.{frames_of_configured, network_start_frames, start_if_configured, starts_of_configured};
-ghost use Rattle.nmt_boot.specs.Startup.{startup_of_configured};
+ghost use Rattle.nmt_boot.specs.Startup.{frames_of_configured, network_start_frames, start_with_network as queued_with_network};
+ghost use Rattle.nmt_boot.specs.Startup.{own_start, starts_with_network, startup_of_configured};
 
 use crate::startup::Startup;
 use can_frame::{Frame, Pending, Purpose, identifiers};
@@ -35,22 +35,22 @@ pub(crate) fn send_command(
     waiting.add(Purpose::Nmt, nmt_frame(command, node))
 }
 
-/// Queues the start of a node, where it is configured.
-fn start_if_configured(waiting: &mut Pending, node: &Booting) -> Result<(), AllocError>
-    ensures { OnOk result (waiting.new ≡ waiting.old ++ start_if_configured node.now) }
+/// Queues the start of a node that is started with the network: where it is configured, or the manager's own.
+fn start_with_network(waiting: &mut Pending, node: &Booting) -> Result<(), AllocError>
+    ensures { OnOk result (waiting.new ≡ waiting.old ++ queued_with_network node.now) }
 {
-    if node.has_booted() {
+    if node.has_booted() || node.is_own() {
         send_command(waiting, NmtCommand::Start, node.number)?;
     }
     Ok(())
 }
 
-/// Queues the start of each node that is configured, by number.
+/// Queues the start of each node that is started with the network, by number.
 fn start_each(waiting: &mut Pending, nodes: &[Booting]) -> Result<(), AllocError>
-    ensures { OnOk result (waiting.new ≡ waiting.old ++ starts_of_configured nodes.now) }
+    ensures { OnOk result (waiting.new ≡ waiting.old ++ starts_with_network nodes.now) }
 {
     for node in nodes {
-        start_if_configured(waiting, node)?;
+        start_with_network(waiting, node)?;
     }
     Ok(())
 }
@@ -106,6 +106,21 @@ fn start(
         Some(NoteKind::Configured) => start_configured(waiting, startup, nodes, node),
         _ => Ok(()),
     }
+}
+
+/// Queues the start of the manager's own node, where the network is started.
+#[tactic(auto, unfolding(crate::specs::Startup::own_start))]
+pub(crate) fn start_own(
+    waiting: &mut Pending,
+    startup: &Startup,
+    node: u8,
+) -> Result<(), AllocError>
+    ensures { OnOk result (waiting.new ≡ waiting.old ++ own_start startup.now node) }
+{
+    if startup.is_started() {
+        send_command(waiting, NmtCommand::Start, node)?;
+    }
+    Ok(())
 }
 
 /// Queues what a step of a boot queues, starts the nodes that are to be started then, and notes what it notes. The

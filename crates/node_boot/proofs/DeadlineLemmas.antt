@@ -16,7 +16,7 @@ use Rattle.node_boot.specs.Boot.{deadline_of, write_started, download_configurat
 use Rattle.node_boot.specs.Boot.{comparison_started, compared_next, check_identity, next_compared, boot_nmt_slave}
 use Rattle.node_boot.specs.Boot.{after_compare, after_write, is_as_expected, sdo_answer}
 use Rattle.node_boot.specs.declared.boot_stage.BootStage.{BootStage}
-use Rattle.node_boot.specs.declared.boot_stage.BootStage.TheVariants.{Unseen, Comparing, Writing, Configured, Failed}
+use Rattle.node_boot.specs.declared.boot_stage.BootStage.TheVariants.{Unseen, Comparing, Writing, Configured, Failed, Own}
 use Rattle.node_boot.specs.declared.boot_step.BootStep.{BootStep}
 
 -- the stage has no deadline before t
@@ -80,3 +80,4 @@ module _ (image : Image) (t deadline node : ℕ) (ahead : t ≤ deadline) where
       write_from old place (after_answer transfer answer).stage (after_answer transfer answer).progress h
   answer_from Configured answer h = tt
   answer_from Failed answer h = tt
+  answer_from Own answer h = tt

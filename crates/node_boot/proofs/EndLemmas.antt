@@ -18,7 +18,7 @@ use Rattle.node_boot.specs.Boot.{comparison_started, compared_next, check_identi
 use Rattle.node_boot.specs.Boot.{after_compare, after_write, is_as_expected, sdo_answer}
 use Rattle.node_boot.specs.Ends.{IsAbsent}
 use Rattle.node_boot.specs.declared.boot_stage.BootStage.{BootStage}
-use Rattle.node_boot.specs.declared.boot_stage.BootStage.TheVariants.{Unseen, Comparing, Writing, Configured, Failed}
+use Rattle.node_boot.specs.declared.boot_stage.BootStage.TheVariants.{Unseen, Comparing, Writing, Configured, Failed, Own}
 use Rattle.node_boot.specs.declared.boot_step.BootStep.{BootStep}
 use Rattle.node_boot.specs.declared.note_kind.NoteKind.TheVariants as kind
 
@@ -97,3 +97,4 @@ module _ (image : Image) (node : ℕ) where
         write_ends old place (after_answer transfer answer).stage (after_answer transfer answer).progress e
     answer_ends Configured answer e = cc
     answer_ends Failed answer e = cc
+    answer_ends Own answer e = cc

@@ -14,7 +14,7 @@ use Rattle.image_parts.specs.declared.identity.Identity.{Identity}
 use Rattle.image_parts.specs.declared.part.Part.{Part}
 use Rattle.image_parts.specs.declared.part.Part.TheVariants.{Expect, Boot}
 use Rattle.node_boot.specs.declared.boot_stage.BootStage.{BootStage}
-use Rattle.node_boot.specs.declared.boot_stage.BootStage.TheVariants.{Unseen, Comparing, Writing, Configured, Failed}
+use Rattle.node_boot.specs.declared.boot_stage.BootStage.TheVariants.{Unseen, Comparing, Writing, Configured, Failed, Own}
 use Rattle.node_boot.specs.declared.boot_step.BootStep.{BootStep}
 use Rattle.node_boot.specs.declared.note_kind.NoteKind.{NoteKind}
 use Rattle.node_boot.specs.declared.note_kind.NoteKind.TheVariants as kind
@@ -118,6 +118,7 @@ answer_taken deadline node (Writing place transfer old) answer =
     after_write deadline old node place (after_answer transfer answer).stage (after_answer transfer answer).progress
 answer_taken deadline node Configured answer = Answer (no_step Configured)
 answer_taken deadline node Failed answer = Answer (no_step Failed)
+answer_taken deadline node Own answer = Answer (no_step Own)
 
 unfoldable pub sdo_answer : ℕ → ℕ → BootStage → List ℕ → Asking Part Content BootStep
 sdo_answer deadline node stage answer = answer_taken deadline node stage answer
@@ -130,6 +131,7 @@ deadline_of (Comparing place expected transfer deadline) = Some deadline
 deadline_of (Writing place transfer deadline) = Some deadline
 deadline_of Configured = None
 deadline_of Failed = None
+deadline_of Own = None
 
 abbrev pub is_at : ℕ → Option ℕ → Bool
 is_at t None = false
@@ -152,6 +154,7 @@ time_out_frame (Comparing place expected transfer deadline) = abort_sent (timed_
 time_out_frame (Writing place transfer deadline) = abort_sent (timed_out_at transfer).progress
 time_out_frame Configured = None
 time_out_frame Failed = None
+time_out_frame Own = None
 
 unfoldable pub sdo_time_out : BootStage → BootStep
 sdo_time_out stage = boot_failed kind.TimedOut (time_out_frame stage)

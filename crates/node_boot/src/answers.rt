@@ -144,5 +144,6 @@ pub fn sdo_answer<P: Boots>(
         BootStage::Unseen => Ok(BootStep::stays(BootStage::Unseen)),
         BootStage::Configured => Ok(BootStep::stays(BootStage::Configured)),
         BootStage::Failed => Ok(BootStep::stays(BootStage::Failed)),
+        BootStage::Own => Ok(BootStep::stays(BootStage::Own)),
     }
 }

@@ -36,6 +36,8 @@ pub enum BootStage {
     Configured,
     /// The boot has failed.
     Failed,
+    /// The manager runs in the node, which holds its configuration by itself: it isn't booted.
+    Own,
 }
 
 impl BootStage {
@@ -75,6 +77,7 @@ impl BootStage {
             }
             BootStage::Configured => Ok(BootStage::Configured),
             BootStage::Failed => Ok(BootStage::Failed),
+            BootStage::Own => Ok(BootStage::Own),
         }
     }
 
@@ -112,6 +115,7 @@ impl BootStage {
             ) => place.same(p) && client_transfer::same(transfer, t) && deadline == d,
             (BootStage::Configured, BootStage::Configured) => true,
             (BootStage::Failed, BootStage::Failed) => true,
+            (BootStage::Own, BootStage::Own) => true,
             _ => false,
         }
     }

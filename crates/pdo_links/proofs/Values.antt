@@ -78,7 +78,7 @@ pub record IsTaken (sheet : Sheet) (node : ℕ) (w : Write) : Type 0 where
 
 -- the same of the plan's words
 has_sound : (sheet : Sheet) (node : ℕ) (width : Width) (place : ℕ × ℕ)
-    → has_unsigned (devices_of false ((node, sheet) ∷ [])) node width place ≡ true
+    → has_unsigned (devices_of false None ((node, sheet) ∷ [])) node width place ≡ true
     → option_map_or (takes_unsigned width) (entry_at sheet node place.0 place.1) false ≡ true
 has_sound sheet node width place test = by (node == node) (same_number node) test
   where
@@ -89,7 +89,7 @@ has_sound sheet node width place test = by (node == node) (same_number node) tes
     by false is e = cc
 
 has_taken : (sheet : Sheet) (node index sub : ℕ) (width : Width) (bytes : List ℕ)
-    → has_unsigned (devices_of false ((node, sheet) ∷ [])) node width (index, sub) ≡ true → AreBytes bytes
+    → has_unsigned (devices_of false None ((node, sheet) ∷ [])) node width (index, sub) ≡ true → AreBytes bytes
     → length bytes ≡ octets width → IsTaken sheet node (write_at index sub bytes)
 has_taken sheet node index sub width bytes test are long =
     record { width = width; takes = has_sound sheet node width (index, sub) test; are = are; long = long }
@@ -217,15 +217,15 @@ module _ (sheet : Sheet) where
 
     -- the mapping of a PDO that the device has
     has_mapping_taken : (object : ℕ) (mapping : List Mapped)
-        → has_mapping (devices_of false ((node, sheet) ∷ [])) node object (length mapping) ≡ true
+        → has_mapping (devices_of false None ((node, sheet) ∷ [])) node object (length mapping) ≡ true
         → length mapping < 256 → AreMapped mapping → AreTaken (mapping_writes object mapping)
     unfolding has_mapping
     has_mapping_taken object mapping test short are =
-        mapping_taken (λ width place. has_unsigned (devices_of false ((node, sheet) ∷ [])) node width place)
+        mapping_taken (λ width place. has_unsigned (devices_of false None ((node, sheet) ∷ [])) node width place)
         (λ width place is. has_sound sheet node width place is) object mapping (first_of _ _ test) (second_of _ _ test)
         short are
 
-    cob_taken : (object cob : ℕ) → has_unsigned (devices_of false ((node, sheet) ∷ [])) node Bits32 (object, 1) ≡ true
+    cob_taken : (object cob : ℕ) → has_unsigned (devices_of false None ((node, sheet) ∷ [])) node Bits32 (object, 1) ≡ true
         → IsTaken sheet node (cob_write object cob)
     cob_taken object cob test = has_taken sheet node object 1 Bits32 (little_bytes 4 cob) test (four_bytes cob) refl
 
@@ -237,9 +237,9 @@ module _ (sheet : Sheet) where
     unfolding tpdo_writes
     tpdo_taken c has transmission started short are =
         let object : ℕ = tpdo_object c.message.tpdo in
-        let cob : has_unsigned (devices_of false ((node, sheet) ∷ [])) node Bits32 (object, 1)
+        let cob : has_unsigned (devices_of false None ((node, sheet) ∷ [])) node Bits32 (object, 1)
         ≡ true = first_of _ _ (first_of _ _ has) in
-        let kind : has_unsigned (devices_of false ((node, sheet) ∷ [])) node Bits8 (object, 2)
+        let kind : has_unsigned (devices_of false None ((node, sheet) ∷ [])) node Bits8 (object, 2)
         ≡ true = second_of _ _ (first_of _ _ has) in
         let off : ℕ = off_bit + (no_rtr_bit + c.identifier) in
         let type : List ℕ = c.message.transmission ∷ [] in
@@ -269,9 +269,9 @@ module _ (sheet : Sheet) where
     unfolding rpdo_writes
     rpdo_taken c k has short are =
         let object : ℕ = rpdo_object k.rpdo in
-        let cob : has_unsigned (devices_of false ((node, sheet) ∷ [])) node Bits32 (object, 1)
+        let cob : has_unsigned (devices_of false None ((node, sheet) ∷ [])) node Bits32 (object, 1)
         ≡ true = first_of _ _ (first_of _ _ has) in
-        let kind : has_unsigned (devices_of false ((node, sheet) ∷ [])) node Bits8 (object, 2)
+        let kind : has_unsigned (devices_of false None ((node, sheet) ∷ [])) node Bits8 (object, 2)
         ≡ true = second_of _ _ (first_of _ _ has) in
         let type : List ℕ = taken_type c.message.transmission ∷ [] in
         let rest : List Write = mapping_writes (mapping_object object) k.mapping in

@@ -1,5 +1,5 @@
 -- Each PDO of the plan is one that its node's device has, and no identifier is restricted.
-use Rattle.std.proofs.Common.{◌≡◌, ℕ, ◌+◌, ◌<◌, ◌≤◌, ◌==◌, ◌&&◌, Bool, true, false, cond, List, [], ◌∷◌, length, Some}
+use Rattle.std.proofs.Common.{◌≡◌, ℕ, ◌+◌, ◌<◌, ◌≤◌, ◌==◌, ◌&&◌, Bool, true, false, cond, List, [], ◌∷◌, length, Option, Some, None}
 use Rattle.std.proofs.Common.{option_and_then, refl, sym, ap, subst, ◌∙◌, arith, IsFalse}
 use Rattle.std.specs.List.{list_all, range_with_len, All, Contains}
 use Rattle.std.specs.Map.{lookup}
@@ -90,34 +90,34 @@ itself : (n : ℕ) → (n == n) ≡ true
 itself n = grind (arith, nat_tests)
 
 -- in versions 1 and 2 an RPDO that is found has what its writes name
-two_has : (had : Had) (nodes : List (ℕ × Sheet)) (m : Linked) (node number : ℕ)
-    → rpdo_for had (devices_of false nodes) m node ≡ Some number
-    → has_pdo (devices_of false nodes) node (rpdo_object number) (length m.sources) ≡ true
+two_has : (had : Had) (controller : Option ℕ) (nodes : List (ℕ × Sheet)) (m : Linked) (node number : ℕ)
+    → rpdo_for had (devices_of false controller nodes) m node ≡ Some number
+    → has_pdo (devices_of false controller nodes) node (rpdo_object number) (length m.sources) ≡ true
 unfolding rpdo_for
-two_has had nodes m node number e =
-    let devices : Devices = devices_of false nodes in
+two_has had controller nodes m node number e =
+    let devices : Devices = devices_of false controller nodes in
     let cs = carried_of devices m.message.node m.sources in
     let is : IsLeastFree (is_free_rpdo had devices node (length cs)) 1 512 (Some number) =
     least_free_is (is_free_rpdo had devices node (length cs)) 1 512 (Some number) (sym e) in
     subst (λ n. has_pdo devices node (rpdo_object number) n ≡ true)
     (length-map m.sources (carried_by devices m.message.node)) (and_right _ _ is.2)
 
-module _ (nodes : List (ℕ × Sheet)) (node : ℕ) (sheet : Sheet)
+module _ (controller : Option ℕ) (nodes : List (ℕ × Sheet)) (node : ℕ) (sheet : Sheet)
     (there : lookup (λ n. n == node) nodes ≡ Some sheet) where
   -- the plan's device of the node is this device
-  entries_same : (devices_of false nodes).entry node ≡ (devices_of false ((node, sheet) ∷ [])).entry node
+  entries_same : (devices_of false controller nodes).entry node ≡ (devices_of false None ((node, sheet) ∷ [])).entry node
   entries_same =
       let one : lookup (λ n. n == node) ((node, sheet) ∷ [])
       ≡ Some sheet = ap (λ b. cond b (Some sheet) (lookup (λ n. n == node) [])) (itself node) in
       λ i place. option_and_then (λ s. entry_at s node place.0 place.1) ((there ∙ sym one) i)
 
   has_here : (number object few count : ℕ) → number ≡ node → few ≤ count
-      → has_pdo (devices_of false nodes) number object count ≡ true → HasPdo sheet node object few
+      → has_pdo (devices_of false controller nodes) number object count ≡ true → HasPdo sheet node object few
   has_here number object few count is up has =
-      let here : has_pdo (devices_of false nodes) node object count
-      ≡ true = subst (λ n. has_pdo (devices_of false nodes) n object count ≡ true) is has in
-      sym (pdo_alike (devices_of false nodes) (devices_of false ((node, sheet) ∷ [])) node node object few entries_same)
-      ∙ fewer (devices_of false nodes) node object few count up here
+      let here : has_pdo (devices_of false controller nodes) node object count
+      ≡ true = subst (λ n. has_pdo (devices_of false controller nodes) n object count ≡ true) is has in
+      sym (pdo_alike (devices_of false controller nodes) (devices_of false None ((node, sheet) ∷ [])) node node object few entries_same)
+      ∙ fewer (devices_of false controller nodes) node object few count up here
 
   abbrev Made : Clean → Type 0
   Made c = (c.message.node ≡ node → HasPdo sheet node (tpdo_object c.message.tpdo) (length c.mapping))
@@ -127,41 +127,41 @@ module _ (nodes : List (ℕ × Sheet)) (node : ℕ) (sheet : Sheet)
   abbrev MadeTaker : Consumer → Type 0
   MadeTaker k = k.node ≡ node → HasPdo sheet node (rpdo_object k.rpdo) (length k.mapping)
 
-  taker_made : (had : Had) (m : Linked) (n : ℕ) (k : Consumer) → consumer_of had (devices_of false nodes) m n ≡ Some k
+  taker_made : (had : Had) (m : Linked) (n : ℕ) (k : Consumer) → consumer_of had (devices_of false controller nodes) m n ≡ Some k
       → MadeTaker k
   taker_made had m n k e same =
-      let is = consumer_is had (devices_of false nodes) m n k e in
-      let count : length k.mapping ≤ length m.sources = let f = taken_few (devices_of false nodes) m n
+      let is = consumer_is had (devices_of false controller nodes) m n k e in
+      let count : length k.mapping ≤ length m.sources = let f = taken_few (devices_of false controller nodes) m n
       in let g = ap length is.mapping in omega (arith, f, g) in
       has_here n (rpdo_object k.rpdo) (length k.mapping) (length m.sources)
-      (sym is.at ∙ same) count (two_has had nodes m n k.rpdo is.rpdo)
+      (sym is.at ∙ same) count (two_has had controller nodes m n k.rpdo is.rpdo)
 
-  takers_made : (had : Had) (m : Linked) → All MadeTaker (planned_consumers had (devices_of false nodes) m)
+  takers_made : (had : Had) (m : Linked) → All MadeTaker (planned_consumers had (devices_of false controller nodes) m)
   unfolding planned_consumers
   takers_made had m =
-      All-from_recursion MadeTaker (planned_consumers had (devices_of false nodes) m)
-      (each_given (consumer_of had (devices_of false nodes) m) MadeTaker (taker_made had m) (consumers_of m.sinks))
+      All-from_recursion MadeTaker (planned_consumers had (devices_of false controller nodes) m)
+      (each_given (consumer_of had (devices_of false controller nodes) m) MadeTaker (taker_made had m) (consumers_of m.sinks))
 
   clean_made : (withheld : Withheld) (before : List Clean) (m : Linked) (c : Clean)
-      → judged_message (had_by withheld before) (devices_of false nodes) m ≡ Planned c → Made c
+      → judged_message (had_by withheld before) (devices_of false controller nodes) m ≡ Planned c → Made c
   clean_made withheld before m c e =
-      let is = judged_clean (had_by withheld before) (devices_of false nodes) m c e in
-      let objects = (faultless (had_by withheld before) (devices_of false nodes) m is.faultless).objects in
-      let has : has_pdo (devices_of false nodes) m.message.node (tpdo_object m.message.tpdo) (length m.sources)
+      let is = judged_clean (had_by withheld before) (devices_of false controller nodes) m c e in
+      let objects = (faultless (had_by withheld before) (devices_of false controller nodes) m is.faultless).objects in
+      let has : has_pdo (devices_of false controller nodes) m.message.node (tpdo_object m.message.tpdo) (length m.sources)
       ≡ true = and_left _ _ (and_left _ _ objects) in
-      let same : has_pdo (devices_of false nodes) c.message.node (tpdo_object c.message.tpdo) (length m.sources) ≡ true =
-      subst (λ (x : Message). has_pdo (devices_of false nodes) x.node (tpdo_object x.tpdo) (length m.sources)
+      let same : has_pdo (devices_of false controller nodes) c.message.node (tpdo_object c.message.tpdo) (length m.sources) ≡ true =
+      subst (λ (x : Message). has_pdo (devices_of false controller nodes) x.node (tpdo_object x.tpdo) (length m.sources)
       ≡ true) is.message has in
       let count : length c.mapping ≤ length m.sources = let f = ap length (sym is.mapping)
-      in let g = sent_count (devices_of false nodes) m in omega (arith, f, g) in
+      in let g = sent_count (devices_of false controller nodes) m in omega (arith, f, g) in
       let takers : All MadeTaker c.consumers = subst (All MadeTaker) is.consumers (takers_made (had_by withheld before) m) in (
         (λ at. has_here c.message.node (tpdo_object c.message.tpdo) (length c.mapping) (length m.sources)
             at count same),
         λ k among. All-contains MadeTaker c.consumers k takers among,
       )
 
-  pub made_for : (ms : List (List ℕ × Linked)) → IsMadeFor (plan_of (devices_of false nodes) ms) sheet node
+  pub made_for : (ms : List (List ℕ × Linked)) → IsMadeFor (plan_of (devices_of false controller nodes) ms) sheet node
   made_for ms c among =
-      All-contains Made (clean (plan_of (devices_of false nodes) ms)) c
-      (all_clean Made (clean (plan_of (devices_of false nodes) ms))
-      (each_clean (devices_of false nodes) (λ before d. Made d) clean_made ms)) among
+      All-contains Made (clean (plan_of (devices_of false controller nodes) ms)) c
+      (all_clean Made (clean (plan_of (devices_of false controller nodes) ms))
+      (each_clean (devices_of false controller nodes) (λ before d. Made d) clean_made ms)) among

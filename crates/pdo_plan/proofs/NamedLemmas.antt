@@ -28,7 +28,7 @@ use Rattle.pdo_plan.specs.declared.message_fault.MessageFault.TheVariants.{NotMa
 use Rattle.pdo_plan.specs.declared.message_fault.MessageFault.TheVariants.{BadIdentifier, NoIdentifier, ReservedType}
 use Rattle.pdo_plan.specs.declared.outcome.Outcome.TheVariants.{Planned}
 use Rattle.pdo_plan.specs.declared.planned_message.PlannedMessage.{PlannedMessage}
-use Rattle.pdo_stations.specs.Devices.{Devices, devices_of, can_map}
+use Rattle.pdo_stations.specs.Devices.{Devices, devices_of, can_map, is_of_manager}
 use Rattle.cia301.specs.PdoObjects.{rpdo_object, tpdo_object}
 use Rattle.pdo_choices.specs.Least.{least_free}
 use Rattle.pdo_choices.specs.Consumers.{Sinks, nodes_put, consumers_of}
@@ -92,7 +92,7 @@ pub record AreAlikeFor (d e : Devices) (m : Linked) : Type 0 where
 
 -- a device with these entries and dummies at every node
 abbrev one : (ℕ × ℕ → Option Entry) → (ℕ → Bool) → Devices
-one entry dummy = record { entry = λ node. entry; dummy = λ node. dummy; vendor = None }
+one entry dummy = record { entry = λ node. entry; dummy = λ node. dummy; vendor = None; controller = None }
 
 -- ---- devices by the rules of versions 1 and 2
 
@@ -134,8 +134,8 @@ module _ (x : Devices) (none : x.vendor ≡ None) where
     rpdo = λ node number. is_some vendor && list_any (λ m. names_rpdo node number m.1) ms;
   } in held) none
 
-module _ (had : Had) (d e : Devices) (dn : d.vendor ≡ None) (en : e.vendor ≡ None) (m : Linked)
-    (same : AreAlikeFor d e m) where
+module _ (had : Had) (d e : Devices) (dn : d.vendor ≡ None) (en : e.vendor ≡ None) (cs : d.controller ≡ e.controller)
+    (m : Linked) (same : AreAlikeFor d e m) where
   abbrev sender : ℕ
   sender = m.message.node
 
@@ -166,8 +166,9 @@ module _ (had : Had) (d e : Devices) (dn : d.vendor ≡ None) (en : e.vendor ≡
       let sinks = any_alike (λ s. not (can_map Receive d s.0.1 s.1) || (s.0.1 == sender))
       (λ s. not (can_map Receive e s.0.1 s.1) || (s.0.1 == sender)) m.sinks
       (each_is (λ s. AreAlikeAt d e s.0.1) _ (λ s at. λ i. not (option_map_or (is_mappable Receive)
-      (at.entry i s.1) false) || (s.0.1 == sender)) m.sinks same.takers) in
-      λ i. list_any (λ s. not (option_map_or (is_mappable Transmit) (same.sender.entry i s.1) false)) m.sources
+      (at.entry i s.1) false && not (is_of_manager (cs i) s.0.1 s.1)) || (s.0.1 == sender)) m.sinks same.takers) in
+      λ i. list_any (λ s. not (option_map_or (is_mappable Transmit) (same.sender.entry i s.1) false
+      && not (is_of_manager (cs i) sender s.1))) m.sources
       || sinks i
 
   mismatch_alike : has_mismatch d m ≡ has_mismatch e m
@@ -256,14 +257,14 @@ module _ (had : Had) (d e : Devices) (dn : d.vendor ≡ None) (en : e.vendor ≡
 
 -- ---- the plan
 
-module _ (d e : Devices) (dn : d.vendor ≡ None) (en : e.vendor ≡ None) where
+module _ (d e : Devices) (dn : d.vendor ≡ None) (en : e.vendor ≡ None) (cs : d.controller ≡ e.controller) where
   after_alike : (withheld : Withheld) (before : List Clean) (ms : List (List ℕ × Linked))
       → AllByRecursion (λ m. AreAlikeFor d e m.1) ms → plan_after withheld d before ms ≡ plan_after withheld e before ms
   after_alike withheld before [] each = refl
   after_alike withheld before (m ∷ ms) each =
       let said : PlannedMessage = planned_message (had_by withheld before) d m in
       let same : said ≡ planned_message (had_by withheld before) e m =
-      λ i. record { name = m.0; outcome = judged_alike (had_by withheld before) d e dn en m.1 each.0 i } in
+      λ i. record { name = m.0; outcome = judged_alike (had_by withheld before) d e dn en cs m.1 each.0 i } in
       ap (λ ps. said ∷ ps) (after_alike withheld (before ++ clean (said ∷ [])) ms each.1)
       ∙ ap (λ (p : PlannedMessage). p ∷ plan_after withheld e (before ++ clean (p ∷ [])) ms) same
 
@@ -311,17 +312,19 @@ module _ (d e : Devices) where
   )
 
 -- of a node that two lists of nodes look up alike their devices say the same
-lookup_alike : (a b : List (ℕ × Sheet)) (node : ℕ) → lookup (λ n. n == node) a ≡ lookup (λ n. n == node) b
-    → AreAlikeAt (devices_of false a) (devices_of false b) node
-lookup_alike a b node same = record {
+lookup_alike : (controller : Option ℕ) (a b : List (ℕ × Sheet)) (node : ℕ)
+    → lookup (λ n. n == node) a ≡ lookup (λ n. n == node) b
+    → AreAlikeAt (devices_of false controller a) (devices_of false controller b) node
+lookup_alike controller a b node same = record {
   entry = λ i place. option_and_then (λ sheet. entry_at sheet node place.0 place.1) (same i);
   dummy = λ i kind. option_map_or (λ sheet. dummy_allowed sheet.sections kind) (same i) false;
 }
 
-pub named_alike : (a b : List (ℕ × Sheet)) (messages : Named)
+pub named_alike : (controller : Option ℕ) (a b : List (ℕ × Sheet)) (messages : Named)
     → ((node : ℕ) → is_of_messages node messages ≡ true → lookup (λ n. n == node) a ≡ lookup (λ n. n == node) b)
-    → plan_of (devices_of false a) (entries messages) ≡ plan_of (devices_of false b) (entries messages)
-named_alike a b messages same =
-    plan_alike (devices_of false a) (devices_of false b) refl refl (entries messages)
-    (messages_named (devices_of false a) (devices_of false b) (entries messages)
-    (λ node named. lookup_alike a b node (same node named)))
+    → plan_of (devices_of false controller a) (entries messages) ≡ plan_of (devices_of false controller b) (entries messages)
+named_alike controller a b messages same =
+    let d : Devices = devices_of false controller a in
+    let e : Devices = devices_of false controller b in
+    plan_alike d e refl refl refl (entries messages)
+    (messages_named d e (entries messages) (λ node named. lookup_alike controller a b node (same node named)))

@@ -153,7 +153,7 @@ FitFrames c = (mapping_bits c.mapping ≤ 64) × All (λ (k : Consumer). mapping
 
 -- a device has what the writes of a PDO name
 abbrev pub HasPdo : Sheet → ℕ → ℕ → ℕ → Type 0
-HasPdo sheet node object count = has_pdo (devices_of false ((node, sheet) ∷ [])) node object count ≡ true
+HasPdo sheet node object count = has_pdo (devices_of false None ((node, sheet) ∷ [])) node object count ≡ true
 
 -- each PDO that the plan gives a node is one that its device has
 abbrev pub IsMadeFor : List PlannedMessage → Sheet → ℕ → Type 0

@@ -86,15 +86,16 @@ pub fn mappings_fit_frames()
 
 /// Each PDO that the plan gives a node is one that its device has.
 pub fn plans_are_made_for_their_devices()
-    ensures { (nodes : List (ℕ × Sheet)) (ms : List (List ℕ × Linked)) (node : ℕ) (sheet : Sheet)
+    ensures { (controller : Option ℕ) (nodes : List (ℕ × Sheet)) (ms : List (List ℕ × Linked)) (node : ℕ) (sheet : Sheet)
         → lookup (λ n. n == node) nodes ≡ Some sheet
-        → IsMadeFor (plan_of (devices_of false nodes) ms) sheet node }
+        → IsMadeFor (plan_of (devices_of false controller nodes) ms) sheet node }
 {}
 
 /// The plan asks only of the nodes that its messages name: those that send a message, or take a part
 /// of one.
 pub fn the_plan_asks_only_of_the_nodes_that_messages_name()
-    ensures { (a b : List (ℕ × Sheet)) (messages : Named)
+    ensures { (controller : Option ℕ) (a b : List (ℕ × Sheet)) (messages : Named)
         → ((node : ℕ) → is_of_messages node messages ≡ true → lookup (λ n. n == node) a ≡ lookup (λ n. n == node) b)
-        → plan_of (devices_of false a) (map.entries messages) ≡ plan_of (devices_of false b) (map.entries messages) }
+        → plan_of (devices_of false controller a) (map.entries messages)
+        ≡ plan_of (devices_of false controller b) (map.entries messages) }
 {}

@@ -32,21 +32,22 @@ fn take_clean(taken: &mut Taken, outcome: &Outcome) -> Result<(), AllocError>
 }
 
 /// The plan of messages (CiA 301, PDOs), by the rules of version 3 or not: in order of name each is judged
-/// against the clean ones before it alone, by what the devices of the nodes say. A node that isn't listed has
-/// no entry; of two with one number the first counts.
+/// against the clean ones before it alone, by what the devices of the nodes say, where the manager runs in this
+/// one, if in any. A node that isn't listed has no entry; of two with one number the first counts.
 ///
 /// Takes time by the number of the devices' entries, of the messages' sources and sinks and of their
 /// consumers, and by the logarithms of these.
 pub fn plan(
     alloc: Global,
     is_three: bool,
+    controller: Option<u8>,
     nodes: &[(u8, &DataSheet)],
     messages: &Messages,
 ) -> Result<Plan, AllocError>
-    ensures { IfOk result (λ plan. plan ≡ plan_of (devices_of is_three (nodes_of nodes.now))
+    ensures { IfOk result (λ plan. plan ≡ plan_of (devices_of is_three controller (nodes_of nodes.now))
         (map.entries messages.now)) }
 {
-    let stations = Stations::new(alloc, is_three, nodes)?;
+    let stations = Stations::new(alloc, is_three, controller, nodes)?;
     let mut taken = Taken::new(alloc, stations, messages)?;
     let mut plan = Vec::new(alloc);
     'messages: for (name, linked) in messages.iter() {

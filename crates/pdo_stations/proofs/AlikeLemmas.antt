@@ -9,23 +9,24 @@ use Rattle.pdo_stations.specs.Seats.{shape_at}
 use Rattle.pdo_stations.specs.Stations.{devices_in}
 use Rattle.pdo_stations.specs.declared.stations.Stations.{Stations}
 
+-- devices with these entries at every node
+abbrev with_entries : (ℕ × ℕ → Option Entry) → Devices
+with_entries f = record { entry = λ node. f; dummy = λ node kind. false; vendor = None; controller = None }
+
 pub pdo_alike : (d e : Devices) (m n object count : ℕ) → d.entry m ≡ e.entry n
     → has_pdo d m object count ≡ has_pdo e n object count
 unfolding has_mapping
-pdo_alike d e m n object count same = ap (λ (f : ℕ × ℕ → Option Entry). let one : Devices =
-    record { entry = λ node. f; dummy = λ node kind. false; vendor = None } in has_pdo one 0 object count) same
+pdo_alike d e m n object count same = ap (λ (f : ℕ × ℕ → Option Entry). has_pdo (with_entries f) 0 object count) same
 
 pub times_alike : (d e : Devices) (m n object inhibit event : ℕ) → d.entry m ≡ e.entry n
     → has_times d m object inhibit event ≡ has_times e n object inhibit event
 times_alike d e m n object inhibit event same =
-    ap (λ (f : ℕ × ℕ → Option Entry). let one : Devices = record { entry = λ node. f; dummy = λ node kind. false; vendor = None }
-    in has_times one 0 object inhibit event) same
+    ap (λ (f : ℕ × ℕ → Option Entry). has_times (with_entries f) 0 object inhibit event) same
 
 pub start_alike : (d e : Devices) (m n object start : ℕ) → d.entry m ≡ e.entry n
     → has_start d m object start ≡ has_start e n object start
 start_alike d e m n object start same =
-    ap (λ (f : ℕ × ℕ → Option Entry). let one : Devices = record { entry = λ node. f; dummy = λ node kind. false; vendor = None }
-    in has_start one 0 object start) same
+    ap (λ (f : ℕ × ℕ → Option Entry). has_start (with_entries f) 0 object start) same
 
 -- the entries of a node with a station
 pub entries_at : (stations : Stations) (node : ℕ) (shape : Shaped) → shape_at stations.seats node ≡ Some shape

@@ -76,19 +76,22 @@ allowed_shaped node kind (Some sheet) = dummy_shaped sheet node kind
 
 pub devices_alike : (stations : Stations) (is_three : Bool) (nodes : List (ℕ × Sheet))
     → ((node : ℕ) → shape_at stations.seats node ≡ shaped node nodes)
-    → (devices_in stations).vendor ≡ (devices_of is_three nodes).vendor → devices_in stations ≡ devices_of is_three nodes
+    → (devices_in stations).vendor ≡ (devices_of is_three None nodes).vendor
+    → devices_in stations ≡ devices_of is_three stations.controller nodes
 devices_alike stations is_three nodes same vendors =
     let entries : (node : ℕ) (place : ℕ × ℕ)
-    → (devices_in stations).entry node place ≡ (devices_of is_three nodes).entry node place =
+    → (devices_in stations).entry node place ≡ (devices_of is_three None nodes).entry node place =
     λ node place. ap (option_and_then (λ (s : Shaped). get s.entries place)) (same node)
     ∙ entry_shaped node place (lookup (λ n. n == node) nodes) in
-    let dummies : (node kind : ℕ) → (devices_in stations).dummy node kind ≡ (devices_of is_three nodes).dummy node kind =
+    let dummies : (node kind : ℕ)
+    → (devices_in stations).dummy node kind ≡ (devices_of is_three None nodes).dummy node kind =
     λ node kind. ap (λ o. option_map_or (λ (s : Shaped). is_dummy_allowed s kind) o false) (same node)
     ∙ allowed_shaped node kind (lookup (λ n. n == node) nodes) in
     λ i. record {
       entry = λ node place. entries node place i;
       dummy = λ node kind. dummies node kind i;
       vendor = vendors i;
+      controller = stations.controller;
     }
 
 -- ---- devices as they were made

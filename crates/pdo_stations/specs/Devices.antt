@@ -1,5 +1,5 @@
 -- What the devices of a project say of their entries (CiA 301), as the plan of messages asks it.
-use Rattle.std.specs.Prelude.{ℕ, ◌==◌, ◌&&◌, ◌||◌, Bool, true, false, if◌then◌else◌, List, Option, Some, None}
+use Rattle.std.specs.Prelude.{ℕ, ◌==◌, ◌&&◌, ◌||◌, not, Bool, true, false, if◌then◌else◌, List, Option, Some, None}
 use Rattle.std.specs.Prelude.{option_map, option_and_then}
 use Rattle.std.specs.List.{list_all, range_with_len}
 use Rattle.std.specs.Map.{lookup}
@@ -25,23 +25,25 @@ abbrev pub as_made : Sheet → ℕ → AsMade
 as_made sheet node = record { shape = shape_of sheet node; defaults = defaults_of sheet node }
 
 -- the entry that a node has at an index and sub-index, and whether it allows the dummy of a type; in version 3 each
--- device as its vendor made it
+-- device as its vendor made it, and the node, if there is one, that the manager runs in
 pub record Devices : Type 0 where
   pub entry : ℕ → ℕ × ℕ → Option Entry
   pub dummy : ℕ → ℕ → Bool
   pub vendor : Option (ℕ → Option AsMade)
+  pub controller : Option ℕ
 
 -- the data sheet of a node
 abbrev pub sheet_at : List (ℕ × Sheet) → ℕ → Option Sheet
 sheet_at nodes node = lookup (λ n. n == node) nodes
 
--- the devices of nodes, each the data sheet of its EDS, by the rules of version 3 or not; a node that isn't there has no
--- entry
-abbrev pub devices_of : Bool → List (ℕ × Sheet) → Devices
-devices_of is_three nodes = record {
+-- the devices of nodes, each the data sheet of its EDS, by the rules of version 3 or not, and the node that the manager
+-- runs in; a node that isn't there has no entry
+abbrev pub devices_of : Bool → Option ℕ → List (ℕ × Sheet) → Devices
+devices_of is_three controller nodes = record {
   entry = λ node place. option_and_then (λ sheet. entry_at sheet node place.0 place.1) (sheet_at nodes node);
   dummy = λ node kind. option_map_or (λ sheet. dummy_allowed sheet.sections kind) (sheet_at nodes node) false;
   vendor = if is_three then Some (λ node. option_map (λ sheet. as_made sheet node) (sheet_at nodes node)) else None;
+  controller = controller;
 }
 
 -- a type is UNSIGNEDn of this width
@@ -72,9 +74,15 @@ width_at devices node place = option_and_then (λ (e : Entry). width_bits e.kind
 abbrev pub type_at : Devices → ℕ → ℕ × ℕ → DataType
 type_at devices node place = option_map_or (λ (e : Entry). e.kind) (devices.entry node place) NotModelled
 
+-- the producer heartbeat time of the node that the manager runs in: it is the manager's, and no PDO maps it
+abbrev pub is_of_manager : Option ℕ → ℕ → ℕ × ℕ → Bool
+is_of_manager None node place = false
+is_of_manager (Some controller) node place = (node == controller) && ((place.0 == 0x1017) && (place.1 == 0))
+
 -- an entry that is there and that a PDO of a direction can map
 abbrev pub can_map : Direction → Devices → ℕ → ℕ × ℕ → Bool
 can_map direction devices node place = option_map_or (is_mappable direction) (devices.entry node place) false
+    && not (is_of_manager devices.controller node place)
 
 -- a mapping object has room for so many entries: sub 0 and subs 1 to the count
 unfoldable pub has_mapping : Devices → ℕ → ℕ → ℕ → Bool

@@ -11,6 +11,7 @@ device_with shape = record {
   entry = λ node place. get shape.entries place;
   dummy = λ node kind. is_dummy_allowed shape kind;
   vendor = None;
+  controller = None;
 }
 
 -- a PDO that has room for so many entries has room for fewer; None is a PDO that can't be used

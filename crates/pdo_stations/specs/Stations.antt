@@ -13,4 +13,5 @@ devices_in stations = record {
   entry = λ node place. option_and_then (λ (s : Shaped). get s.entries place) (shape_at stations.seats node);
   dummy = λ node kind. option_map_or (λ (s : Shaped). is_dummy_allowed s kind) (shape_at stations.seats node) false;
   vendor = option_map (λ makes. made_at makes.items) stations.makes;
+  controller = stations.controller;
 }

@@ -61,7 +61,7 @@ pub(crate) fn makes_of(
     nodes: &[(u8, &DataSheet)],
 ) -> Result<Option<Vec<Option<AsMade>>>, AllocError>
     ensures { IfOk result (λ makes. option_map (λ m. made_at m.items) makes
-        ≡ (devices_of is_three (nodes_of nodes.now)).vendor) }
+        ≡ (devices_of is_three None (nodes_of nodes.now)).vendor) }
 {
     if is_three {
         let makes = look_up_makes(alloc, nodes)?;

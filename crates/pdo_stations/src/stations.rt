@@ -3,6 +3,7 @@ ghost use Rattle.std.specs.Prelude.{◌≡◌, ◌==◌, ◌≤◌, is_some, opt
 ghost use Rattle.std.specs.Option.{option_copied};
 ghost use Rattle.co_values.specs.Types.{width_bits};
 ghost use Rattle.pdo_stations.specs.Devices.{devices_of, can_map, has_pdo, has_start, has_times, type_at, width_at};
+ghost use Rattle.pdo_stations.specs.Devices.{is_of_manager as is_managers};
 ghost use Rattle.cia301.specs.PdoObjects.{tpdo_object};
 ghost use Rattle.pdo_stations.specs.Dummies.{dummy_for};
 ghost use Rattle.pdo_stations.specs.Shown.{nodes_of};
@@ -32,6 +33,8 @@ pub struct Stations {
     pub(crate) seats: Seats,
     /// In version 3 a seat for each number, with the device of the node.
     pub(crate) makes: Option<Vec<Option<AsMade>>>,
+    /// The node, if there is one, that the manager runs in.
+    pub(crate) controller: Option<u8>,
 }
 
 /// The bits of an entry in a PDO, where it is BOOLEAN, an integer or a REAL.
@@ -42,20 +45,35 @@ fn entry_width(entry: &Entry) -> Option<u8>
     Some(bits as u8)
 }
 
+/// Whether this is the producer heartbeat time (CiA 301, object 1017h) of the node that the manager runs in.
+fn is_of_manager(controller: Option<u8>, node: u8, place: (u16, u8)) -> bool
+    ensures { result ≡ is_managers controller node place }
+{
+    match controller {
+        None => false,
+        Some(controller) => node == controller && place.0 == 0x1017 && place.1 == 0,
+    }
+}
+
 impl Stations {
-    /// Looks the devices of nodes up, by the rules of version 3 or not. Of two nodes with one number the
-    /// first counts. Takes time by the number of the devices' entries and its logarithm, and in version 3
+    /// Looks the devices of nodes up, by the rules of version 3 or not, where the manager runs in this one, if in any.
+    /// Of two nodes with one number the first counts. Takes time by the number of the devices' entries and its logarithm, and in version 3
     /// memory by it.
     pub fn new(
         alloc: Global,
         is_three: bool,
+        controller: Option<u8>,
         nodes: &[(u8, &DataSheet)],
     ) -> Result<Stations, AllocError>
-        ensures { IfOk result (λ stations. devices_in stations ≡ devices_of is_three (nodes_of nodes.now)) }
+        ensures { IfOk result (λ stations. devices_in stations ≡ devices_of is_three controller (nodes_of nodes.now)) }
     {
         let seats = Seats::new(alloc, nodes)?;
         let makes = makes_of(alloc, is_three, nodes)?;
-        Ok(Stations { seats, makes })
+        Ok(Stations {
+            seats,
+            makes,
+            controller,
+        })
     }
 
     /// Whether devices serve as their vendors made them: in version 3.
@@ -98,7 +116,9 @@ impl Stations {
         ensures { result ≡ can_map direction (devices_in self.now) node place }
     {
         match self.entry(node, place) {
-            Some(entry) => entry.is_mappable(direction),
+            Some(entry) => {
+                entry.is_mappable(direction) && !is_of_manager(self.controller, node, place)
+            }
             None => false,
         }
     }
@@ -112,7 +132,8 @@ impl Stations {
     {
         match self.entry(node, place) {
             Some(entry) => Mappable {
-                can_map: entry.is_mappable(direction),
+                can_map: entry.is_mappable(direction)
+                    && !is_of_manager(self.controller, node, place),
                 kind: entry.kind,
                 width: entry_width(entry),
             },

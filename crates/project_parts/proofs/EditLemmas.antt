@@ -1,5 +1,5 @@
 -- What an edit that is taken makes of a project.
-use Rattle.std.proofs.Common.{◌≡◌, ℕ, Bool, true, false, not, ◌||◌, ◌==◌, List, [], ◌∷◌, Option, Some, None}
+use Rattle.std.proofs.Common.{◌≡◌, ℕ, Bool, true, false, not, ◌||◌, ◌&&◌, ◌==◌, List, [], ◌∷◌, Option, Some, None}
 use Rattle.std.proofs.Common.{Result, Ok}
 use Rattle.std.specs.FinMap.{contains_key, get, insert, remove}
 use Rattle.std.specs.Option.{option_map_or}
@@ -109,7 +109,8 @@ module _ (p new : Project) where
       two_tests (not (contains_key p.texts name)) (is_used p.nodes name) Unknown InUse
       (made p (edit.DropEds name)) new h
   taken_as (edit.Node id name eds) h =
-      two_tests (not (contains_key p.texts eds)) (id == p.manager.id || name_taken p.nodes id name) Unknown Taken
+      two_tests (not (contains_key p.texts eds))
+      (not (is_three p.version) && (id == p.manager.id) || name_taken p.nodes id name) Unknown Taken
       (made p (edit.Node id name eds)) new h
   taken_as (edit.Need id mandatory) h =
       two_tests (is_one p.version) (not (contains_key p.nodes id)) Range Unknown (made p (edit.Need id mandatory)) new h

@@ -4,6 +4,7 @@ pub mod PlanLemmas
 pub mod MadeLemmas
 pub mod EditLemmas
 pub mod EventLemmas
+pub mod ControllerLemmas
 pub mod FileLemmas
 pub mod FrameLemmas
 pub mod DropLemmas

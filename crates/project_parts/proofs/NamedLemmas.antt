@@ -33,21 +33,21 @@ module _ (flags : List Bool) where
             rest ∙ sym (ap (λ t. cond t (Some d.1) (at_node ds)) (other d none (d.0 == node) refl))
 
 -- the plan of the messages
-pub named_planned : (devices : List (ℕ × Sheet)) (messages : Named) (flags : List Bool)
+pub named_planned : (controller : Option ℕ) (devices : List (ℕ × Sheet)) (messages : Named) (flags : List Bool)
     (nodes : List (ℕ × Sheet)) → ((node : ℕ) → is_flagged flags node ≡ is_of_messages node messages)
     → nodes ≡ filter (flagged flags) devices
-    → plan_of (devices_of false nodes) (entries messages)
-    ≡ plan_made (record { is_three = false; devices = devices; messages = messages })
+    → plan_of (devices_of false controller nodes) (entries messages)
+    ≡ plan_made (record { is_three = false; controller = controller; devices = devices; messages = messages })
 unfolding plan_made
-named_planned devices messages flags nodes named is =
-    ap (λ (ns : List (ℕ × Sheet)). plan_of (devices_of false ns) (entries messages)) is
-    ∙ named_alike (filter (flagged flags) devices) devices messages
+named_planned controller devices messages flags nodes named is =
+    ap (λ (ns : List (ℕ × Sheet)). plan_of (devices_of false controller ns) (entries messages)) is
+    ∙ named_alike controller (filter (flagged flags) devices) devices messages
     (λ node concerned. found flags node (named node ∙ concerned) devices)
 
 -- and over all of them in version 3
-pub all_planned : (devices : List (ℕ × Sheet)) (messages : Named) (nodes : List (ℕ × Sheet)) → nodes ≡ devices
-    → plan_of (devices_of true nodes) (entries messages)
-    ≡ plan_made (record { is_three = true; devices = devices; messages = messages })
+pub all_planned : (controller : Option ℕ) (devices : List (ℕ × Sheet)) (messages : Named) (nodes : List (ℕ × Sheet)) → nodes ≡ devices
+    → plan_of (devices_of true controller nodes) (entries messages)
+    ≡ plan_made (record { is_three = true; controller = controller; devices = devices; messages = messages })
 unfolding plan_made
-all_planned devices messages nodes is =
-    ap (λ (ns : List (ℕ × Sheet)). plan_of (devices_of true ns) (entries messages)) is
+all_planned controller devices messages nodes is =
+    ap (λ (ns : List (ℕ × Sheet)). plan_of (devices_of true controller ns) (entries messages)) is

@@ -13,7 +13,7 @@ use Rattle.pdo_plan.specs.declared.planned_message.PlannedMessage.{PlannedMessag
 use Rattle.pdo_links.specs.Writes.{node_writes}
 use Rattle.project_edits.specs.Versions.{is_three}
 use Rattle.co_project.specs.declared.node.Node.{Node}
-use Rattle.co_project.specs.Project.{Content as Project}
+use Rattle.co_project.specs.Project.{Content as Project, controller_of}
 use Rattle.co_project.specs.Tables.{node_at}
 use Rattle.project_plan.specs.Network.{Member, member_at, plan_of_project, with_sheet, writes_of}
 use Rattle.project_plan.proofs.NetworkLemmas.{made_for_member, sheets_are}
@@ -50,7 +50,7 @@ module _ (p : Project) where
   pub plan_is : plan_made (plan_from p) ≡ plan_of_project p
   unfolding plan_made plan_of_project
   plan_is =
-      ap (λ (ns : List (ℕ × Sheet)). plan_of (devices_of (is_three p.version) ns) (entries p.messages))
+      ap (λ (ns : List (ℕ × Sheet)). plan_of (devices_of (is_three p.version) (controller_of p) ns) (entries p.messages))
       (sym (sheets_are p))
 
   module _ (n : ℕ) where

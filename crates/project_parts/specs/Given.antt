@@ -1,12 +1,13 @@
 -- The parts of a project, and what each is to be made from now.
-use Rattle.std.specs.Prelude.{ℕ, Bool, true, false, List, Option, Some, ◌==◌, option_map, option_and_then, filter_map}
+use Rattle.std.specs.Prelude.{ℕ, Bool, true, false, List, Option, Some, None, if◌then◌else◌, ◌==◌, option_map, option_and_then, filter_map}
 use Rattle.std.specs.FinMap.{entries}
 use Rattle.std.specs.Ordering.{eq_by_cmp}
 use Rattle.eds_device.specs.Sheets.{Sheet}
 use Rattle.project_edits.specs.Versions.{is_three}
 use Rattle.project_messages.specs.Messages.{name_cmp}
 use Rattle.co_project.specs.declared.node.Node.{Node}
-use Rattle.co_project.specs.Project.{Content as Project}
+use Rattle.co_project.specs.Project.{Content as Project, controller_of, is_controller}
+use Rattle.concise_dcf.specs.declared.write.Write.{Write}
 use Rattle.co_project.specs.Tables.{node_at}
 use Rattle.co_scenario.specs.declared.timed_step.TimedStep.{TimedStep}
 use Rattle.part_shelves.specs.SheetText.{sheet_given, SheetText}
@@ -56,6 +57,7 @@ node_with_device p e = option_map (λ d. (e.0, d)) (device_at p e.1.eds)
 abbrev pub plan_from : Project → PlanFrom
 plan_from p = record {
   is_three = is_three p.version;
+  controller = controller_of p;
   devices = filter_map (node_with_device p) (entries p.nodes);
   messages = p.messages;
 }
@@ -96,10 +98,14 @@ dcf_from p n = option_and_then (dcf_of_node p n) (node_at p.nodes n)
 abbrev pub roster_from : Project → RosterFrom
 roster_from p = record { roster = roster_of_project p }
 
-abbrev pub device_of_node : Project → ℕ → Node → Option DeviceAt
-device_of_node p n node = option_map (λ d. record { device = d; node = n }) (device_at p node.eds)
+-- the writes that a node holds by itself: those of the one that the manager runs in
+abbrev pub own_given : Project → ℕ → Option (List Write)
+own_given p n = if is_controller p n then option_map writes_made (writes_from p n) else None
 
--- the device of a node with its number
+abbrev pub device_of_node : Project → ℕ → Node → Option DeviceAt
+device_of_node p n node = option_map (λ d. record { device = d; node = n; own = own_given p n }) (device_at p node.eds)
+
+-- the device of a node with its number, and the writes that it holds by itself
 abbrev pub device_from : Project → ℕ → Option DeviceAt
 device_from p n = option_and_then (device_of_node p n) (node_at p.nodes n)
 

@@ -10,7 +10,12 @@ use Rattle.project_parts.specs.declared.writes_now.WritesNow.{WritesNow}
 use Rattle.project_parts.specs.Written.{DeviceWithWrites}
 
 abbrev pub offered_plan : PlanNow → PlanFrom
-offered_plan o = record { is_three = o.is_three; devices = o.devices; messages = o.messages.now }
+offered_plan o = record {
+  is_three = o.is_three;
+  controller = o.controller;
+  devices = o.devices;
+  messages = o.messages.now;
+}
 
 abbrev pub offered_writes : WritesNow → WritesFrom
 offered_writes o = record {

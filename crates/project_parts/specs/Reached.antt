@@ -1,10 +1,10 @@
 -- What is brought up to date for a part: the parts that it is made from, in the order in which they are reached, and
 -- then itself.
-use Rattle.std.specs.Prelude.{ℕ, zero, suc, ◌≤◌, List, [], ◌∷◌, ◌++◌, map}
+use Rattle.std.specs.Prelude.{ℕ, zero, suc, ◌≤◌, List, [], ◌∷◌, ◌++◌, map, if◌then◌else◌}
 use Rattle.std.specs.FinMap.{entries}
 use Rattle.std.specs.Option.{option_map_or}
 use Rattle.co_project.specs.declared.node.Node.{Node}
-use Rattle.co_project.specs.Project.{Content as Project}
+use Rattle.co_project.specs.Project.{Content as Project, is_controller}
 use Rattle.co_project.specs.Tables.{node_at}
 use Rattle.project_parts.specs.declared.part.Part.{Part}
 use Rattle.project_parts.specs.declared.part.Part.TheVariants as part
@@ -31,6 +31,10 @@ for_plan p = of_nodes p ++ part.Plan ∷ []
 abbrev pub for_writes : Project → ℕ → List Part
 for_writes p n = for_plan p ++ own_device p n ++ part.Writes n ∷ []
 
+-- the writes of a node with all before them, where the manager runs in it
+abbrev pub for_own : Project → ℕ → List Part
+for_own p n = if is_controller p n then for_writes p n else []
+
 abbrev pub parts_for : Project → Part → List Part
 parts_for p (part.Device name) = part.Device name ∷ []
 parts_for p part.Plan = for_plan p
@@ -38,7 +42,7 @@ parts_for p (part.Writes n) = for_writes p n
 parts_for p (part.Concise n) = for_writes p n ++ part.Concise n ∷ []
 parts_for p (part.Dcf n) = for_writes p n ++ part.Dcf n ∷ []
 parts_for p part.Roster = part.Roster ∷ []
-parts_for p (part.Node n) = own_device p n ++ part.Node n ∷ []
+parts_for p (part.Node n) = for_own p n ++ own_device p n ++ part.Node n ∷ []
 parts_for p (part.Window i) = of_nodes p ++ part.Window i ∷ []
 parts_for p part.Diagnostics = for_plan p ++ part.Diagnostics ∷ []
 
@@ -46,7 +50,7 @@ parts_for p part.Diagnostics = for_plan p ++ part.Diagnostics ∷ []
 
 -- the parts of the node of a number
 abbrev pub for_node : ℕ → List Part
-for_node n = part.Node n ∷ part.Writes n ∷ []
+for_node n = part.Writes n ∷ part.Node n ∷ []
 
 abbrev pub for_nodes : List (ℕ × Node) → List Part
 for_nodes [] = []

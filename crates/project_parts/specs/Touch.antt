@@ -5,11 +5,12 @@ use Rattle.project_edits.specs.declared.edit.Edit.TheVariants as edit
 use Rattle.project_parts.specs.declared.touch.Touch.{Touch as TheTouch}
 use Rattle.project_parts.specs.declared.touch.Touch.TheVariants as touch
 
--- nothing; the bit rate; what else the manager is told; the version; the text of the EDS of a name; the node of a number; its
+-- nothing; the bit rate; the manager, which gets this number; what else it is told; the version; the text of the EDS of a name; the node of a number; its
 -- parameters; the messages; the event of a number that comes to a time, or that goes
 pub data Touch : Type 0 where
   Nothing : Touch
   Rate : Touch
+  Manager : ℕ → Touch
   Roster : Touch
   Version : Touch
   Sheet : List ℕ → Touch
@@ -24,7 +25,7 @@ abbrev pub touch_of : Edit → Touch
 touch_of (edit.Version version) = Version
 touch_of (edit.Bitrate rate) = Rate
 touch_of (edit.Horizon time) = Nothing
-touch_of (edit.Manager m) = Roster
+touch_of (edit.Manager m) = Manager m.id
 touch_of (edit.TimeStamps stamps) = Roster
 touch_of (edit.SyncCounter n) = Roster
 touch_of (edit.Eds name text) = Sheet name
@@ -50,6 +51,7 @@ touch_of (edit.DropEvent number) = NoEvent number
 abbrev pub touch_value : TheTouch → Touch
 touch_value touch.Nothing = Nothing
 touch_value touch.Rate = Rate
+touch_value (touch.Manager id) = Manager id
 touch_value touch.Roster = Roster
 touch_value touch.Version = Version
 touch_value (touch.Sheet name) = Sheet name.now

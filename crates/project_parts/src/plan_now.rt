@@ -15,36 +15,49 @@ use std::alloc::{AllocError, Global};
 /// The plan of messages over the devices of the nodes, of which it looks at those that the messages name.
 fn planned_of_named(
     alloc: Global,
+    controller: Option<u8>,
     devices: &NodeDevices,
     messages: &Messages,
 ) -> Result<Plan, AllocError>
     ensures { IfOk result (λ plan. plan
-        ≡ plan_made (record { is_three = false; devices = devices.now; messages = messages.now })) }
+        ≡ plan_made (record {
+          is_three = false;
+          controller = controller;
+          devices = devices.now;
+          messages = messages.now;
+        })) }
 {
     let named = Named::by(messages);
     let nodes = devices.references(alloc, &named)?;
-    let plan = pdo_links::plan(alloc, false, &nodes, messages)?;
+    let plan = pdo_links::plan(alloc, false, controller, &nodes, messages)?;
     Ok(plan)
 }
 
 /// The same by the rules of version 3, where each device has PDOs that others keep clear of.
 fn planned_as_made(
     alloc: Global,
+    controller: Option<u8>,
     devices: &NodeDevices,
     messages: &Messages,
 ) -> Result<Plan, AllocError>
     ensures { IfOk result (λ plan. plan
-        ≡ plan_made (record { is_three = true; devices = devices.now; messages = messages.now })) }
+        ≡ plan_made (record {
+          is_three = true;
+          controller = controller;
+          devices = devices.now;
+          messages = messages.now;
+        })) }
 {
     let nodes = devices.all_references(alloc)?;
-    let plan = pdo_links::plan(alloc, true, &nodes, messages)?;
+    let plan = pdo_links::plan(alloc, true, controller, &nodes, messages)?;
     Ok(plan)
 }
 
-/// The version's rules, the nodes with their devices, and the messages.
+/// The version's rules, the node that the manager runs in, the nodes with their devices, and the messages.
 #[derive(Drop)]
 pub struct PlanNow<'a> {
     pub is_three: bool,
+    pub controller: Option<u8>,
     pub devices: NodeDevices,
     pub messages: &'a Messages,
 }
@@ -62,6 +75,7 @@ impl<'a> PlanNow<'a> {
     {
         PlanNow {
             is_three: project.version().is_three(),
+            controller: project.controller(),
             devices,
             messages: project.messages(),
         }
@@ -72,9 +86,9 @@ impl<'a> PlanNow<'a> {
         ensures { IfOk result (λ plan. plan ≡ plan_made (offered_plan self.now)) }
     {
         if self.is_three {
-            planned_as_made(alloc, &self.devices, self.messages)
+            planned_as_made(alloc, self.controller, &self.devices, self.messages)
         } else {
-            planned_of_named(alloc, &self.devices, self.messages)
+            planned_of_named(alloc, self.controller, &self.devices, self.messages)
         }
     }
 }
@@ -86,6 +100,7 @@ impl<'a> Offers<PlanFrom, Shared<Plan>> for PlanNow<'a> {
 
     fn same(&self, kept: &PlanFrom) -> bool {
         kept.is_three == self.is_three
+            && kept.controller == self.controller
             && kept.messages.same(self.messages)
             && kept.devices.same(&self.devices)
     }
@@ -95,6 +110,7 @@ impl<'a> Offers<PlanFrom, Shared<Plan>> for PlanNow<'a> {
         let messages = self.messages.copy()?;
         Ok(PlanFrom {
             is_three: self.is_three,
+            controller: self.controller,
             devices,
             messages,
         })

@@ -11,8 +11,9 @@ pub enum Touch<'a> {
     Nothing,
     /// The bit rate, which DCFs say and the roster has.
     Rate,
-    /// What else the manager (CiA 302) is told: its numbers, its time stamps, the counter of SYNC, which nodes are
-    /// mandatory.
+    /// The manager (CiA 302), which gets this number and others: in version 3 that says which node it runs in.
+    Manager(u8),
+    /// What else the manager is told: its time stamps, the counter of SYNC, which nodes are mandatory.
     Roster,
     /// The version: it says which data types count, how the plan is made and how the manager starts nodes.
     Version,
@@ -39,7 +40,7 @@ pub fn touch_of(edit: &Edit) -> Touch<'_>
         Edit::Version(_) => Touch::Version,
         Edit::Bitrate(_) => Touch::Rate,
         Edit::Horizon(_) => Touch::Nothing,
-        Edit::Manager(_) => Touch::Roster,
+        Edit::Manager(manager) => Touch::Manager(manager.id),
         Edit::TimeStamps(_) => Touch::Roster,
         Edit::SyncCounter(_) => Touch::Roster,
         Edit::Eds { name, .. } => Touch::Sheet(name.as_slice()),

@@ -9,7 +9,7 @@ use Rattle.std.proofs.lemmas.Option.{same_Some}
 use Rattle.base.proofs.EachLemmas.{all_entries, each_weaker}
 use Rattle.project_messages.specs.declared.linked.Linked.{Linked}
 use Rattle.project_messages.specs.Messages.{IsLinked}
-use Rattle.co_project.specs.Project.{Content}
+use Rattle.co_project.specs.Project.{Content, controller_of}
 use Rattle.co_project.specs.Sound.{IsMessageOf, IsSound}
 use Rattle.pdo_stations.specs.Devices.{Devices, devices_of}
 use Rattle.pdo_choices.specs.declared.clean.Clean.{Clean}
@@ -48,7 +48,7 @@ module _ (p : Content) (sound : IsSound p) where
   cs = clean (plan_of_project p)
 
   abbrev devices : Devices
-  devices = devices_of (is_three p.version) (sheets_of_members p)
+  devices = devices_of (is_three p.version) (controller_of p) (sheets_of_members p)
 
   -- and so are the clean ones
   pub all_within : All IsWithin (clean (plan_of_project p))

@@ -15,7 +15,7 @@ use Rattle.eds_device.specs.Entries.{entry_at}
 use Rattle.eds_device.specs.Sheets.{Sheet}
 use Rattle.project_messages.specs.declared.linked.Linked.{Linked}
 use Rattle.project_messages.specs.declared.message.Message.{Message}
-use Rattle.co_project.specs.Project.{Content}
+use Rattle.co_project.specs.Project.{Content, controller_of}
 use Rattle.pdo_stations.specs.Devices.{Devices, devices_of, has_unsigned, takes_unsigned}
 use Rattle.cia301.specs.PdoObjects.{mapping_object, tpdo_object}
 use Rattle.pdo_choices.specs.declared.clean.Clean.{Clean}
@@ -46,10 +46,11 @@ record IsAsked (d : Devices) (c : Clean) : Type 0 where
   event : Takes d c.message.node c.message.tpdo Bits16 5 c.message.event
   start : Takes d c.message.node c.message.tpdo Bits8 6 c.start
 
-clean_asked : (nodes : List (ℕ × Sheet)) (withheld : Withheld) (before : List Clean) (m : Linked) (c : Clean)
-    → judged_message (had_by withheld before) (devices_of false nodes) m ≡ Planned c → IsAsked (devices_of false nodes) c
-clean_asked nodes withheld before m c e =
-    let d : Devices = devices_of false nodes in
+clean_asked : (controller : Option ℕ) (nodes : List (ℕ × Sheet)) (withheld : Withheld) (before : List Clean) (m : Linked) (c : Clean)
+    → judged_message (had_by withheld before) (devices_of false controller nodes) m ≡ Planned c
+    → IsAsked (devices_of false controller nodes) c
+clean_asked controller nodes withheld before m c e =
+    let d : Devices = devices_of false controller nodes in
     let is = judged_clean (had_by withheld before) d m c e in
     let objects = (faultless (had_by withheld before) d m is.faultless).objects in
     let times = second_of _ _ (first_of _ _ objects) in
@@ -62,15 +63,15 @@ clean_asked nodes withheld before m c e =
     }
 
 all_asked : (p : Content) (c : Clean) → is_three p.version ≡ false → Contains (clean (plan_of_project p)) c
-    → IsAsked (devices_of false (sheets_of_members p)) c
+    → IsAsked (devices_of false (controller_of p) (sheets_of_members p)) c
 unfolding plan_of_project
 all_asked p c old has =
-    let d : Devices = devices_of false (sheets_of_members p) in
+    let d : Devices = devices_of false (controller_of p) (sheets_of_members p) in
     let planned : List Clean = clean (plan_of d (entries p.messages)) in
     All-contains (IsAsked d) planned c
     (all_clean (IsAsked d) planned
-    (each_clean d (λ before c. IsAsked d c) (clean_asked (sheets_of_members p)) (entries p.messages)))
-    (subst (λ (b : Bool). Contains (clean (plan_of (devices_of b (sheets_of_members p)) (entries p.messages))) c) old has)
+    (each_clean d (λ before c. IsAsked d c) (clean_asked (controller_of p) (sheets_of_members p)) (entries p.messages)))
+    (subst (λ (b : Bool). Contains (clean (plan_of (devices_of b (controller_of p) (sheets_of_members p)) (entries p.messages))) c) old has)
 
 besides_none : (n : ℕ) (b : Bool) → (n == 0 || b) ≡ true → (n ≡ 0 → ⊥) → b ≡ true
 besides_none n b test other = by (n == 0) refl test
@@ -82,12 +83,12 @@ besides_none n b test other = by (n == 0) refl test
 module _ (p : Content) (id : ℕ) (m : Member) (there : member_at p id ≡ Some m) where
   -- the entry of the node's own EDS takes it
   entry_takes : (tpdo node : ℕ) (width : Width) (sub value : ℕ) → node ≡ id
-      → Takes (devices_of false (sheets_of_members p)) node tpdo width sub value → (value ≡ 0 → ⊥)
+      → Takes (devices_of false (controller_of p) (sheets_of_members p)) node tpdo width sub value → (value ≡ 0 → ⊥)
       → option_map_or (takes_unsigned width) (entry_at m.sheet id (tpdo_object tpdo) sub) false ≡ true
   entry_takes tpdo node width sub value is takes other =
-      let test : has_unsigned (devices_of false (sheets_of_members p)) id width (tpdo_object tpdo, sub) ≡ true =
-      besides_none value (has_unsigned (devices_of false (sheets_of_members p)) id width (tpdo_object tpdo, sub))
-      (subst (λ (n : ℕ). Takes (devices_of false (sheets_of_members p)) n tpdo width sub value) is takes) other in
+      let test : has_unsigned (devices_of false (controller_of p) (sheets_of_members p)) id width (tpdo_object tpdo, sub) ≡ true =
+      besides_none value (has_unsigned (devices_of false (controller_of p) (sheets_of_members p)) id width (tpdo_object tpdo, sub))
+      (subst (λ (n : ℕ). Takes (devices_of false (controller_of p) (sheets_of_members p)) n tpdo width sub value) is takes) other in
       subst (λ (o : Option Sheet). option_map_or (takes_unsigned width)
       (option_and_then (λ sheet. entry_at sheet id (tpdo_object tpdo) sub) o) false ≡ true)
       (described_at p id m there) test
@@ -134,7 +135,7 @@ module _ (sheet : Sheet) (node : ℕ) where
 
 module _ (p : Content) (old : is_three p.version ≡ false) (id : ℕ) (m : Member) (c : Clean) (node : IsSoundNode p id m)
     (sends : Sends p id c) where
-  asked : IsAsked (devices_of false (sheets_of_members p)) c
+  asked : IsAsked (devices_of false (controller_of p) (sheets_of_members p)) c
   asked = all_asked p c old sends.planned
 
   pub inhibit_written : (c.message.inhibit ≡ 0 → ⊥)

@@ -37,7 +37,7 @@ use Rattle.pdo_plan.proofs.ChainLemmas.{all_clean, each_within}
 use Rattle.pdo_plan.proofs.JudgedLemmas.{consumer_is, each_given, judged_clean}
 use Rattle.pdo_links.specs.Tables.{AreMapped}
 use Rattle.pdo_links.proofs.Values.{two_bytes}
-use Rattle.co_project.specs.Project.{Content}
+use Rattle.co_project.specs.Project.{Content, controller_of}
 use Rattle.co_project.specs.Sound.{IsSound}
 use Rattle.project_edits.specs.Versions.{is_three}
 use Rattle.project_plan.specs.Network.{sheets_of_members, plan_of_project}
@@ -205,6 +205,6 @@ writable devices withheld before m c kept e =
 pub all_writable : (p : Content) → IsSound p → All IsWritable (clean (plan_of_project p))
 unfolding plan_of_project
 all_writable p sound =
-    let devices : Devices = devices_of (is_three p.version) (sheets_of_members p) in
+    let devices : Devices = devices_of (is_three p.version) (controller_of p) (sheets_of_members p) in
     all_clean IsWritable _ (each_within devices (λ before c. IsWritable c) (writable devices) (entries p.messages)
     (all_linked p sound))

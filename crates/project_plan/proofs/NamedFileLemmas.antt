@@ -12,7 +12,7 @@ use Rattle.project_messages.specs.declared.linked.Linked.{Linked}
 use Rattle.project_messages.specs.declared.message.Message.{Message}
 use Rattle.project_messages.specs.Messages.{is_of_messages, is_of_message}
 use Rattle.node_parameters.proofs.WrittenLemmas.{from_filter_map}
-use Rattle.co_project.specs.Project.{Content}
+use Rattle.co_project.specs.Project.{Content, controller_of}
 use Rattle.pdo_stations.specs.Devices.{Devices, devices_of}
 use Rattle.pdo_choices.specs.declared.clean.Clean.{Clean}
 use Rattle.pdo_choices.specs.declared.consumer.Consumer.{Consumer}
@@ -102,6 +102,6 @@ module _ (node : ℕ) where
       → IsNamedByNone (clean (plan_of_project p)) node
   unfolding plan_of_project
   named_by_none p none c has =
-      let devices : Devices = devices_of (is_three p.version) (sheets_of_members p) in
+      let devices : Devices = devices_of (is_three p.version) (controller_of p) (sheets_of_members p) in
       All-contains (Unnamed devices) (clean (plan_of devices (entries p.messages))) c
       (All-from_recursion (Unnamed devices) _ (unnamed_all devices (entries p.messages) none)) has

@@ -11,7 +11,7 @@ use Rattle.std.proofs.lemmas.Cmp.{nat_cmp_total}
 use Rattle.std.proofs.lemmas.Map.Lookups.{exact_unsigned}
 use Rattle.base.proofs.TableLemmas.{alike}
 use Rattle.co_project.specs.declared.node.Node.{Node}
-use Rattle.co_project.specs.Project.{Content}
+use Rattle.co_project.specs.Project.{Content, controller_of}
 use Rattle.co_project.specs.Tables.{node_at}
 use Rattle.pdo_plan.proofs.MadeLemmas.{made_for}
 use Rattle.pdo_stations.specs.Devices.{devices_of}
@@ -114,6 +114,6 @@ module _ (project : Content) (id : ℕ) where
       → IsMadeFor (plan_of_project project) m.sheet id
   unfolding plan_of_project
   made_for_member m old found =
-      subst (λ (b : Bool). IsMadeFor (plan_of (devices_of b (sheets_of_members project)) (entries project.messages))
+      subst (λ (b : Bool). IsMadeFor (plan_of (devices_of b (controller_of project) (sheets_of_members project)) (entries project.messages))
       m.sheet id) (sym old)
-      (made_for (sheets_of_members project) id m.sheet (described_at m found) (entries project.messages))
+      (made_for (controller_of project) (sheets_of_members project) id m.sheet (described_at m found) (entries project.messages))

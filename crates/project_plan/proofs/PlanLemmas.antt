@@ -12,7 +12,7 @@ use Rattle.base.proofs.EachLemmas.{each_found}
 use Rattle.project_edits.specs.Versions.{is_three}
 use Rattle.project_messages.specs.Messages.{is_of_messages}
 use Rattle.co_project.specs.declared.node.Node.{Node}
-use Rattle.co_project.specs.Project.{Content}
+use Rattle.co_project.specs.Project.{Content, controller_of}
 use Rattle.co_project.specs.Sound.{IsNodeOf, IsSound}
 use Rattle.co_project.specs.Tables.{node_at, text_at}
 use Rattle.eds_device.specs.Entries.{dummy_allowed, entry_at}
@@ -87,26 +87,27 @@ module _ (p : Content) (id : ℕ) where
       by (Some node) known = with node known (device_at p node.eds) refl (sheet_there sound node known)
 
 -- the devices by the data sheet of each number
-abbrev devices_by : Bool → (ℕ → Option Sheet) → Devices
-devices_by is_three sheets = record {
+abbrev devices_by : Bool → Option ℕ → (ℕ → Option Sheet) → Devices
+devices_by is_three controller sheets = record {
   entry = λ node place. option_and_then (λ sheet. entry_at sheet node place.0 place.1) (sheets node);
   dummy = λ node kind. option_map_or (λ sheet. dummy_allowed sheet.sections kind) (sheets node) false;
   vendor = if is_three then Some (λ node. option_map (λ sheet. as_made sheet node) (sheets node)) else None;
+  controller = controller;
 }
 
 module _ (p : Content) (nodes : List (ℕ × Sheet)) (sound : IsSound p) where
   over : (b : Bool) → ((id : ℕ) → (b ≡ true) ⊎ (is_of_messages id p.messages ≡ true)
       → lookup (λ n. n == id) nodes ≡ option_map (λ (m : Member). m.sheet) (member_at p id))
-      → plan_of (devices_of b nodes) (entries p.messages)
-      ≡ plan_of (devices_of b (sheets_of_members p)) (entries p.messages)
-  over true are = ap (λ (f : ℕ → Option Sheet). plan_of (devices_by true f) (entries p.messages))
+      → plan_of (devices_of b (controller_of p) nodes) (entries p.messages)
+      ≡ plan_of (devices_of b (controller_of p) (sheets_of_members p)) (entries p.messages)
+  over true are = ap (λ (f : ℕ → Option Sheet). plan_of (devices_by true (controller_of p) f) (entries p.messages))
       (λ i id. (are id (inl refl) ∙ sym (looked_up p id sound)) i)
-  over false are = named_alike nodes (sheets_of_members p) p.messages
+  over false are = named_alike (controller_of p) nodes (sheets_of_members p) p.messages
       (λ id named. are id (inr named) ∙ sym (looked_up p id sound))
 
 pub planned_over_members : (p : Content) (nodes : List (ℕ × Sheet)) → IsSound p
     → ((id : ℕ) → (is_three p.version ≡ true) ⊎ (is_of_messages id p.messages ≡ true)
     → lookup (λ n. n == id) nodes ≡ option_map (λ (m : Member). m.sheet) (member_at p id))
-    → plan_of (devices_of (is_three p.version) nodes) (entries p.messages) ≡ plan_of_project p
+    → plan_of (devices_of (is_three p.version) (controller_of p) nodes) (entries p.messages) ≡ plan_of_project p
 unfolding plan_of_project
 planned_over_members p nodes sound are = over p nodes sound (is_three p.version) are

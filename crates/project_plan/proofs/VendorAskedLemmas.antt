@@ -15,7 +15,7 @@ use Rattle.concise_dcf.specs.declared.write.Write.{Write}
 use Rattle.project_edits.specs.Versions.{is_three}
 use Rattle.project_messages.specs.declared.linked.Linked.{Linked}
 use Rattle.project_messages.specs.declared.message.Message.{Message}
-use Rattle.co_project.specs.Project.{Content}
+use Rattle.co_project.specs.Project.{Content, controller_of}
 use Rattle.pdo_stations.specs.declared.as_made.AsMade.{AsMade}
 use Rattle.pdo_stations.specs.declared.mapped.Mapped.{Mapped}
 use Rattle.pdo_stations.specs.Carried.{carried_of}
@@ -54,10 +54,10 @@ ServedBy c node wanted o =
 abbrev Served : List (ℕ × Sheet) → Clean → Type 0
 Served nodes c = (wanted : Wanted) × ServedBy c c.message.node wanted (sheet_at nodes c.message.node)
 
-clean_served : (nodes : List (ℕ × Sheet)) (withheld : Withheld) (before : List Clean) (m : Linked) (c : Clean)
-    → judged_message (had_by withheld before) (devices_of true nodes) m ≡ Planned c → Served nodes c
-clean_served nodes withheld before m c e =
-    let d : Devices = devices_of true nodes in
+clean_served : (controller : Option ℕ) (nodes : List (ℕ × Sheet)) (withheld : Withheld) (before : List Clean) (m : Linked) (c : Clean)
+    → judged_message (had_by withheld before) (devices_of true controller nodes) m ≡ Planned c → Served nodes c
+clean_served controller nodes withheld before m c e =
+    let d : Devices = devices_of true controller nodes in
     let is = judged_clean (had_by withheld before) d m c e in
     let objects = (faultless (had_by withheld before) d m is.faultless).objects in
     let wanted : Wanted = sent_choices (carried_of d m.message.node m.sources) in (
@@ -73,12 +73,12 @@ all_served : (p : Content) (c : Clean) → is_three p.version ≡ true → Conta
 unfolding plan_of_project
 all_served p c three has =
     let nodes : List (ℕ × Sheet) = sheets_of_members p in
-    let d : Devices = devices_of true nodes in
+    let d : Devices = devices_of true (controller_of p) nodes in
     let planned : List Clean = clean (plan_of d (entries p.messages)) in
     All-contains (Served nodes) planned c
     (all_clean (Served nodes) planned
-    (each_clean d (λ before c. Served nodes c) (clean_served nodes) (entries p.messages)))
-    (subst (λ (b : Bool). Contains (clean (plan_of (devices_of b nodes) (entries p.messages))) c) three has)
+    (each_clean d (λ before c. Served nodes c) (clean_served (controller_of p) nodes) (entries p.messages)))
+    (subst (λ (b : Bool). Contains (clean (plan_of (devices_of b (controller_of p) nodes) (entries p.messages))) c) three has)
 
 -- ---- a number that serves and isn't 0 is set, or stands by default
 

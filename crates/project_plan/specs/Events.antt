@@ -9,16 +9,18 @@ use Rattle.co_scenario.specs.declared.event.Event.{Event}
 use Rattle.co_scenario.specs.declared.event.Event.TheVariants as event
 use Rattle.co_scenario.specs.declared.step.Step.{Step}
 use Rattle.co_scenario.specs.declared.step.Step.TheVariants as step
-use Rattle.co_project.specs.Project.{Content}
+use Rattle.co_project.specs.Project.{Content, is_controller}
+use Rattle.project_plan.specs.Controller.{shape_held}
 use Rattle.project_plan.specs.Network.{member_at, Member}
 
 -- the entries of each node that has any
 abbrev pub Shapes : Type 0
 Shapes = ℕ → Option Shaped
 
--- the entries of the device of its EDS, at its number
+-- the entries of the device of its EDS, at its number; of the device that the manager runs in but one
 unfoldable pub shape_of_node : Content → ℕ → Option Shaped
-shape_of_node project node = option_map (λ (m : Member). shape_of m.sheet node) (member_at project node)
+shape_of_node project node =
+    option_map (λ (m : Member). shape_held (is_controller project node) (shape_of m.sheet node)) (member_at project node)
 
 -- the value that an event sets: none where the entry isn't there, its type isn't modelled, or the text spells no value
 -- of it at the node

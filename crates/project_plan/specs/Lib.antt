@@ -3,6 +3,7 @@ pub mod Named
 pub mod Network
 pub mod Events
 pub mod Values
+pub mod Controller
 pub mod Doubtful
 pub mod GivenParameters
 pub mod Sheets

@@ -5,7 +5,7 @@ use Rattle.std.specs.FinMap.{entries}
 use Rattle.concise_dcf.specs.declared.write.Write.{Write}
 use Rattle.project_edits.specs.Versions.{is_three}
 use Rattle.co_project.specs.declared.node.Node.{Node}
-use Rattle.co_project.specs.Project.{Content}
+use Rattle.co_project.specs.Project.{Content, controller_of}
 use Rattle.co_project.specs.Tables.{node_at, text_at}
 use Rattle.pdo_plan.specs.declared.planned_message.PlannedMessage.{PlannedMessage}
 use Rattle.pdo_stations.specs.Devices.{devices_of}
@@ -46,9 +46,10 @@ members project = filter_map (member_by project) (entries project.nodes)
 unfoldable pub sheets_of_members : Content → List (ℕ × Sheet)
 sheets_of_members project = map (λ e. (e.0, e.1.sheet)) (members project)
 
--- THE PLAN of a project's messages, over the devices of its nodes, by the rules of its version
+-- THE PLAN of a project's messages, over the devices of its nodes, by the rules of its version, with its controller
 unfoldable pub plan_of_project : Content → List PlannedMessage
-plan_of_project project = plan_of (devices_of (is_three project.version) (sheets_of_members project))
+plan_of_project project = plan_of
+    (devices_of (is_three project.version) (controller_of project) (sheets_of_members project))
     (entries project.messages)
 
 -- THE WRITES of the node of a number: those of its parameters, and what the plan gives it

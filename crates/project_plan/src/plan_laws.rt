@@ -4,7 +4,7 @@ ghost use Rattle.std.specs.FinMap as map;
 ghost use Rattle.std.specs.Map.{lookup};
 ghost use Rattle.project_edits.specs.Versions.{is_three};
 ghost use Rattle.project_messages.specs.Messages.{is_of_messages};
-ghost use Rattle.co_project.specs.Project.{Content};
+ghost use Rattle.co_project.specs.Project.{Content, controller_of};
 ghost use Rattle.co_project.specs.Sound.{IsSound};
 ghost use Rattle.pdo_stations.specs.Devices.{devices_of};
 ghost use Rattle.pdo_choices.specs.declared.clean.Clean.{Clean};
@@ -22,7 +22,7 @@ pub fn the_plan_over_the_nodes_devices_is_that_of_the_project()
     ensures { (project : Content) (nodes : List (ℕ × Sheet)) → IsSound project
         → ((id : ℕ) → (is_three project.version ≡ true) ⊎ (is_of_messages id project.messages ≡ true)
         → lookup (λ n. n == id) nodes ≡ option_map (λ (m : Member). m.sheet) (member_at project id))
-        → plan_of (devices_of (is_three project.version) nodes) (map.entries project.messages)
+        → plan_of (devices_of (is_three project.version) (controller_of project) nodes) (map.entries project.messages)
         ≡ plan_of_project project }
 {}
 

@@ -2,7 +2,7 @@
 use Rattle.std.proofs.Common.{◌≡◌, ℕ, ◌+◌, ◌≤◌, sym, ◌∙◌, List, [], ◌∷◌, ◌++◌, length, map, Bool, true, false, cond, not}
 use Rattle.std.proofs.Common.{◌&&◌, ◌||◌, ◌==◌, T, Option, Some, None, Ok, IfSome, All, option_map, is_some, refl, ap}
 use Rattle.std.proofs.Common.{arith, if◌then◌else◌}
-use Rattle.std.proofs.lemmas.Bool.{eqb-true, or_from}
+use Rattle.std.proofs.lemmas.Bool.{and_right, eqb-true, or_from}
 use Rattle.std.proofs.lemmas.Cmp.{nat_cmp_total, nat_list_cmp_total}
 use Rattle.std.proofs.lemmas.List.Elements.{All-head, All-tail}
 use Rattle.std.proofs.lemmas.Map.Lookups.{exact_unsigned, exact_bytes}
@@ -29,7 +29,7 @@ use Rattle.co_dict.proofs.PlaceLemmas.{places_exact, places_total}
 use Rattle.node_parameters.specs.Params.{Texts as Params, is_full_for}
 use Rattle.co_project.specs.declared.node.Node.{Node}
 use Rattle.co_project.specs.Tables.{Texts, Nodes, name_taken, has_no_room, node_after_put, with_need, with_param}
-use Rattle.co_project.specs.Project.{Content, first, accept, accept_all, with_nodes}
+use Rattle.co_project.specs.Project.{Content, first, accept, accept_all, has_controller, with_nodes}
 use Rattle.project_script.specs.Script.{counter_edits, edits, event_edit, message_edits, need_edits, node_edits}
 use Rattle.project_script.specs.Script.{param_edit, param_edits, settings, stamps_edits, text_edit, version_edits}
 use Rattle.base.specs.Tables.{Each}
@@ -138,7 +138,8 @@ module _ (p : Content) where
   node_taken nodes e are there is =
       let put : Node → Content = λ node. with_nodes_alone p (insert nodes e.0 node) in
       let known = get nodes e.0 in
-      ap (λ t. unless ((not t, Unknown) ∷ (e.0 == p.manager.id || name_taken nodes e.0 e.1.name, Taken) ∷ [])
+      ap (λ t. unless ((not t, Unknown)
+      ∷ (not (is_three p.version) && (e.0 == p.manager.id) || name_taken nodes e.0 e.1.name, Taken) ∷ [])
       (put (node_after_put e.1.name e.1.eds known))) is.5
       ∙ ap (λ t. unless ((t, Taken) ∷ []) (put (node_after_put e.1.name e.1.eds known)))
       (or_from _ _ is.1 (name_free nodes are e.0 e.1.name is.3))
@@ -362,8 +363,11 @@ version_again : (version : ScriptVersion)
     → accept_all (Ok first) (version_edits version) ≡ Ok (record first { version = version })
 unfolding accept_all accept
 version_again One = refl
-version_again Two = ap (λ t. accept_all (unless ((t || false, InUse) ∷ []) (record first { version = Two })) [])
+version_again Two =
+    ap (λ t. accept_all (unless ((t || false || has_controller first, InUse) ∷ []) (record first { version = Two })) [])
     none_receives
+    ∙ ap (λ o. accept_all (unless ((is_some o, InUse) ∷ []) (record first { version = Two })) [])
+    (get-empty {X = Node} nat_cmp first.manager.id)
 version_again Three = refl
 
 -- the bit rate, the horizon and the manager
@@ -375,11 +379,13 @@ numbers_again p q none =
     let rated : Content = record q { bitrate = p.bitrate } in
     let timed : Content = record rated { horizon = p.horizon } in
     let managed : Content = record timed { manager = p.manager } in
+    let alone : Bool = not (is_three q.version) in
     one_then q (edit.Bitrate p.bitrate) (edit.Horizon p.horizon ∷ edit.Manager p.manager ∷ []) rated refl
     (one_then rated (edit.Horizon p.horizon) (edit.Manager p.manager ∷ []) timed refl
     (one_then timed (edit.Manager p.manager) [] managed
-    (ap (λ nodes. unless ((contains_key nodes p.manager.id, Taken) ∷ []) managed) none
-    ∙ ap (λ o. unless ((is_some o, Taken) ∷ []) managed) (get-empty {X = Node} nat_cmp p.manager.id)) refl))
+    (ap (λ nodes. unless ((alone && contains_key nodes p.manager.id, Taken) ∷ []) managed) none
+    ∙ ap (λ t. unless ((t, Taken) ∷ []) managed)
+    (and_right alone _ (ap is_some (get-empty {X = Node} nat_cmp p.manager.id)))) refl))
 
 -- the time stamps
 stamps_again : (q : Content) (stamps : Option TimeStamps) → q.time_stamps ≡ None → IfSome stamps (AreTimeStampsOf q)

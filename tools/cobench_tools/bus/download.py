@@ -106,7 +106,7 @@ class Download:
 class Network:
     """The boots of several nodes, one after the other, and their starts.
 
-    is_whole  whether they are all nodes of the plan
+    is_whole  whether they are all nodes that the manager of the plan boots
     version   that of the script, which says how they are started
     commands  the start commands that were sent: 0 for all, else a node
     """
@@ -115,7 +115,7 @@ class Network:
 
     def __init__(self, plan: Planned, downloads: List[Download], bus: Connection, others: Neighbours) -> None:
         self.plan, self.downloads, self.bus, self.others = plan, downloads, bus, others
-        self.is_whole = len(downloads) == len(plan.nodes)
+        self.is_whole = {each.node for each in downloads} >= set(plan.project.booted)
         self.version = plan.project.version
         self.commands: List[int] = []
 

@@ -83,8 +83,8 @@ class Neighbours:
     def _heartbeat(self, node: int, data: bytes) -> None:
         if node == self.manager:
             self._shows(f"it sends the heartbeat of the manager, node {node} ({BOOT_UPS + node:03X}h)")
-            return
-        self.heard.add(node)
+        else:
+            self.heard.add(node)
         state = data[0] & 0x7F if data else None
         if state == 0:
             self.boots[node] = self.boots.get(node, 0) + 1

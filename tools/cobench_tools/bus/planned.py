@@ -46,6 +46,12 @@ class Planned(Plan):
             raise tool.Fault(f"{tool.name_of(self.path)} has no nodes")
         return sorted(set(numbers) or self.nodes)
 
+    def to_boot(self, numbers: List[int]) -> List[int]:
+        """The same, without one those that the manager boots."""
+        if not numbers and self.nodes and not self.project.booted:
+            raise tool.Fault(f"{tool.name_of(self.path)} has no node but the manager")
+        return self.chosen(numbers or self.project.booted)
+
     def values(self, node: int) -> Dict[Key, bytes]:
         """The last value that is written into each entry of a node, in the order of the writes."""
         return dict(self.nodes[node].writes)

@@ -1,5 +1,5 @@
 """Says all that is wrong with a script, as editors and compilers say it."""
-from .. import acceptance, files_check, judgement, network_files, output, session, tool
+from .. import acceptance, files_check, judgement, master_file, network_files, output, session, tool
 from ..evidence import Evidence
 from ..report import Report
 from ..script_order import ScriptOrder
@@ -56,7 +56,7 @@ def report_of(options, queries=(), folder=None):
     found = judgement.of_check(answered)
     found = found if options.sort == "code" else ScriptOrder(answered.pairs).sorted(found)
     if folder is not None:
-        found += files_check.findings_of(folder, network_files.files_of(answered))
+        found += files_check.findings_of(folder, network_files.files_of(answered, master_file.of(answered)))
     acceptance.judge(found, options, acceptance.PLAN | acceptance.SCRIPT | acceptance.FILES)
     report = Report(answered, found)
     if options.junit:

@@ -1,7 +1,8 @@
 """Writes the files of a network: what cobench answers for a script, each in a file of its own."""
 import os
 
-from .. import acceptance, export_folder, manifest, network_files, session, tool
+from .. import acceptance, export_folder, manifest, master_file, network_files, session, tool
+from ..origins import Origins
 from . import check
 
 SUMMARY = "check a script, and write the files of its network: DCF, concise DCF, trace"
@@ -9,7 +10,16 @@ SUMMARY = "check a script, and write the files of its network: DCF, concise DCF,
 AFTER = f"""Reports what `cobtool check` reports. Without an error it writes into DIR, which is made
 where it isn't there, for each node ID_NAME.dcf (its DCF) and ID_NAME.bin (the bytes
 of its concise DCF, as object 1F22h takes them), and diagnostics.txt, trace.txt,
-trace.log (candump). With --force it writes in spite of errors what the accepted
+trace.log (candump). In version 3, where the manager runs in a node, the controller, it
+writes N_NAME_master.dcf too: the DCF of that node with what its manager needs, where
+the data sheet has these objects: 1F80h (it is the master, and starts the nodes one by
+one), 1F81h (which nodes it boots, and which are mandatory), 1F84h to 1F88h (who they
+are), 1F89h (0, no boot time), 1F22h (UploadFile, the .bin of each node), 1016h (the
+nodes whose heartbeats it doesn't watch yet, for one and a half of their periods), and by
+`manager` 1005h, 1006h, 1012h, 1017h and 1019h. A value of `param` stays. What the data
+sheet doesn't take is noted. It was tried with no real master.
+
+With --force it writes in spite of errors what the accepted
 commands make. Files that are there are replaced: all of them, or none, also where
 it is interrupted. The last file is export.json, with the digest of each one; by it
 `cobtool check --files DIR SCRIPT` says later which of them have changed. One export
@@ -36,13 +46,21 @@ def write(folder, files, source):
             tool.say(f"{os.path.join(folder, name)} is none of these nodes: of an earlier export?")
 
 
-def written_text(folder, report, files):
+def written_text(folder, report, files, master):
     """What was written, in one line."""
     if not files:
         return "nothing was written\n"
     nodes = len(report.answered.project.nodes)
     of_nodes = f"DCF and concise DCF of {nodes} node{'' if nodes == 1 else 's'}, " if nodes else ""
-    return f"{len(files)} files in {folder}: {of_nodes}diagnostics.txt, trace.txt, trace.log\n"
+    of_master = "DCF of the master, " if master and master.name in files else ""
+    return f"{len(files)} files in {folder}: {of_nodes}{of_master}diagnostics.txt, trace.txt, trace.log\n"
+
+
+def tell_of_master(answered, master):
+    """Notes what the data sheet of the controller doesn't take of what its manager needs."""
+    place = Origins(answered.pairs).place("node", master.node)
+    for words in master.notes:
+        tool.warn(f"{place}: note: node {master.node} {answered.project.nodes[master.node][0]}: {words}")
 
 
 def arguments(parser):
@@ -62,12 +80,16 @@ def check_order(folder, script):
 def run(options):
     check_order(options.folder, options.script)
     report = check.report_of(options, ("dcf",))
-    files = network_files.files_of(report.answered) if options.force or report.status == tool.DONE else {}
+    is_written = options.force or report.status == tool.DONE
+    master = master_file.of(report.answered) if is_written else None
+    files = network_files.files_of(report.answered, master) if is_written else {}
     if files:
         source = network_files.source_of(report.answered, os.path.basename(options.script), options.cobench)
         write(options.folder, files, source)
     if options.json:
         tool.put(report.as_json(folder=options.folder, files=sorted(files)))
     else:
-        tool.put(report.as_text() + written_text(options.folder, report, files))
+        tool.put(report.as_text() + written_text(options.folder, report, files, master))
+    if master:
+        tell_of_master(report.answered, master)
     return report.status

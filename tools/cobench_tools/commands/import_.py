@@ -13,7 +13,15 @@ sheets without these values, the nodes, a `param` for each value that can be
 written and isn't the default's, and the messages: TPDOs and RPDOs with one COB-ID
 belong together. Of a file as cobench prints them each value becomes a `param`.
 
-The script has `version 3` where less is lost so: where a PDO is off that the data
+The manager runs in one of the nodes, the controller, where the files show it: by 1F80h
+bit 0 (NMT master), else by 1F81h (slaves), CANopenManager or 1005h bit 30 (SYNC); of
+several nodes with one sign the next one decides. --manager N says which node it is,
+--manager 0 that it is none. Then the script has `version 3`, `manager` has the
+controller's number, SYNC period (1006h) and heartbeat (1017h), and nodes with bit 3 of
+1F81h are mandatory. What `cobtool export` makes again of the network becomes no `param`.
+Beside N_NAME.dcf of an export N_NAME_master.dcf says what the manager does alone.
+
+Else the script has `version 3` where less is lost so: where a PDO is off that the data
 sheet has on, has a mapping that can't be written, or isn't the one that the plan
 would give, where an RPDO has an event time (`receive`), or where values or PDOs are
 of REAL32, REAL64 or integers of 24, 40, 48 or 56 bits.
@@ -35,6 +43,8 @@ def arguments(parser):
     parser.epilog = AFTER
     parser.add_argument("files", metavar="DCF", nargs="+")
     parser.add_argument("--all", action="store_true", help="make a param of values that are the default's too")
+    parser.add_argument("--manager", metavar="N", type=int,
+                        help="the manager runs in node N, the controller; 0: in none of them")
     parser.add_argument("--sheets", metavar="DIR",
                         help="write the data sheets into DIR, and take them in by <DIR/NAME.eds")
 
@@ -55,7 +65,9 @@ def write_sheets(folder, files):
 
 
 def run(options):
-    machine = Machine(options.files, options.all)
+    if options.manager is not None and not 0 <= options.manager <= 127:
+        raise tool.Fault(f"--manager is 0 to 127, not {options.manager}")
+    machine = Machine(options.files, options.all, options.manager)
     text = machine.script(options.sheets)
     if options.sheets:
         write_sheets(options.sheets, machine.sheet_files())

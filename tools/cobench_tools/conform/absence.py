@@ -17,6 +17,7 @@ from .plan import milliseconds
 from .presence import LEAST_SILENT
 from .rests import Rests
 from .startup import CALM
+from .sync import ABOUT
 
 PERIODS_OF_SYNC = 2
 
@@ -110,7 +111,7 @@ class AwaitedSync(Awaited):
         coming = [pdo.first_line for node in self.judge.nodes.values() for pdo in node.pdos.values()
                   if pdo.needs_sync and pdo.first_line is not None]
         notes = [(min(coming), "a PDO that SYNC sends comes all the same")] if coming else []
-        self.judge.causes.tell_absent("sync-missing", ["080"], self.node.about,
+        self.judge.causes.tell_absent("sync-missing", ["080"], ABOUT,
                                       f"SYNC: there is none; the period is {milliseconds(self.stream.period)}", spot, notes, is_first=True)
 
 
@@ -215,7 +216,8 @@ class Absences:
         if judge.sync.period and judge.sync.last is None:
             self._judge(AwaitedSync(judge))
         self._judge_all([AwaitedTime(judge)] if judge.time_stamp.comes_by_itself() else [])
-        self._judge_all([AwaitedHeartbeat(judge, judge.manager, judge.plan.manager_heartbeat)] if judge.plan.manager_heartbeat else [])
+        if judge.plan.manager_heartbeat and not judge.controller:
+            self._judge_all([AwaitedHeartbeat(judge, judge.manager, judge.plan.manager_heartbeat)])
         for node in judge.nodes.values():
             awaited = self.awaited_of(node)
             if node.first is None:

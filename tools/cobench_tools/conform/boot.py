@@ -15,19 +15,20 @@ class Boot:
     skipped   the places of those that were passed over, each with where that was seen
     other     the places of those that were written with another value
     started   where the node was started while writes were left, and none of them came since
+    is_planned  whether the manager boots the node: the controller may be written by others, in any order
     """
 
     def __init__(self, judge, node):
         self.judge, self.node, self.writes = judge, node, node.planned.writes
         self.place, self.skipped, self.other, self.started = None, {}, set(), None
-        self.keys = {key for key, _ in self.writes}
+        self.keys, self.is_planned = {key for key, _ in self.writes}, not node.planned.is_controller
 
     # Its beginning and its end.
 
     def begin(self, is_expected):
         """The node's boot-up message came; where that wasn't expected, the manager may leave it at that."""
         self.finish()
-        self.place, self.skipped, self.other, self.started = (0 if is_expected else None), {}, set(), None
+        self.place, self.skipped, self.other, self.started = (0 if is_expected and self.is_planned else None), {}, set(), None
 
     def start(self, time, line):
         """The node was started."""
@@ -80,7 +81,9 @@ class Boot:
             self.node.heartbeat.set_period(0)
         write = transfer.key, transfer.data if transfer.is_whole else None
         spot, self.transfer = Spot(transfer.time, transfer.line), transfer
-        if self.place is None and self.place_of(write, 0) is not None:
+        if not self.is_planned:
+            self._out_of_boot(write, spot)
+        elif self.place is None and self.place_of(write, 0) is not None:
             self.place = self.place_of(write, 0) + 1
         elif self.place is None or not self._in_order(write, spot):
             self._out_of_boot(write, spot)

@@ -22,11 +22,17 @@ class Gaps:
         self.least = senders[SENDERS - 1] if len(senders) >= SENDERS else NEVER
 
     def _senders(self):
-        """What each sender sends by itself, the manager first."""
+        """What each sender sends by itself, the manager first, which the controller is."""
         judge = self.judge
-        yield [judge.sync, judge.manager.heartbeat]
+        yield [judge.sync] + self._streams(judge.manager)
         for node in judge.nodes.values():
-            yield [node.heartbeat] + [pdo for pdo in node.pdos.values() if not pdo.needs_sync]
+            if node is not judge.manager:
+                yield self._streams(node)
+
+    @staticmethod
+    def _streams(node):
+        """What a node sends by itself, without SYNC."""
+        return [node.heartbeat] + [pdo for pdo in node.pdos.values() if not pdo.needs_sync]
 
     @staticmethod
     def _longest(streams):

@@ -7,6 +7,8 @@ from . import consequences, emergencies, keys
 from .absence import Absences
 from .besides import Besides
 from .bus import Bus
+from .causes import Spot
+from .controller import Controller
 from .expected import Expected
 from .gaps import Gaps
 from .manager import Manager
@@ -21,6 +23,11 @@ from .unfinished import Unfinished
 
 RESTRICTED = [is_restricted(identifier) for identifier in range(0x800)]
 ALL_NODES, COMMUNICATION = 0, 0x81
+
+
+def follower_of(judge, planned):
+    """What follows a node."""
+    return (Controller if planned.is_controller else Node)(judge, planned)
 
 
 def let_pass(time, data, number):
@@ -44,6 +51,7 @@ class Judge:
 
     causes   what isn't as planned
     nodes    the planned nodes, by number
+    manager  the manager: the controller, where it runs in a node of the network, which is one of the nodes
     is_of_plan  whether it is the planned run that is judged
     begin, end, last_line  when the log begins and ends, and its last line
     opening  the key and the bytes of its first frame
@@ -59,8 +67,9 @@ class Judge:
         self.bus = Bus(plan.bit if self.is_of_plan else plan.bus_bit, tolerance, has_stuff_bits(plan.project))
         self.sync, self.time_stamp = Sync(self), TimeStamp(self)
         self.startup, self.places = Startup(plan), Places()
-        self.nodes = {number: Node(self, planned) for number, planned in sorted(plan.nodes.items())}
-        self.manager, self.strays = Manager(self), Strays(self)
+        self.nodes = {number: follower_of(self, planned) for number, planned in sorted(plan.nodes.items())}
+        self.controller, self.strays = self.nodes.get(plan.manager), Strays(self)
+        self.manager = self.controller or Manager(self)
         self.handlers, self.besides = Handlers(self), Besides(self)
         self._connect()
         self.bus.load.planned = frozenset(self.handlers)
@@ -132,14 +141,14 @@ class Judge:
 
         Where they boot in another order than planned, others may have booted before the log.
         """
-        heard = [node for node in self.nodes.values() if node.first is not None]
+        heard = [node for node in self.nodes.values() if node.first is not None and node is not self.controller]
         has_each = all(node.first_boot and node.first_boot.time <= node.first.time for node in heard)
         return bool(self.is_power_on) and has_each and not self.startup.is_reordered
 
     def may_not_be_started(self):
         """Whether a mandatory node isn't there, and nothing shows that the network was started without it."""
         project, nodes = self.plan.project, self.nodes.values()
-        is_away = any(node.first is None for node in nodes if node.number in project.mandatory)
+        is_away = any(node.first is None for node in nodes if node.number in project.mandatory and node is not self.controller)
         return project.version >= 2 and is_away and not any(node.was_operational() for node in nodes)
 
     def tolerate(self):
@@ -157,7 +166,8 @@ class Judge:
         self.time_stamp.finish(self.end)
         for node in self.nodes.values():
             node.finish(self.end)
-        self.manager.heartbeat.finish(self.end)
+        if self.controller is None:
+            self.manager.heartbeat.finish(self.end)
         Unfinished(self).finish()
         if self.causes.alignment:
             self.absences.finish()
@@ -188,8 +198,10 @@ class Judge:
         if self.active_since is None:
             self.active_since = time
 
-    def first_sync(self, time):
-        """The first SYNC came."""
+    def first_sync(self, time, number):
+        """The first SYNC came: so its sender is there."""
+        if self.controller and self.controller.first is None:
+            self.controller.first = Spot(time, number)
         if self.causes.alignment:
             self.causes.alignment.take_sync(time, self.plan.first_sync)
 

@@ -1,9 +1,14 @@
 """Follows what the manager sends by itself: its heartbeat."""
+from typing import Dict
+
 from .heartbeat import Heartbeat
+from .pdo import Pdo
 
 
 class Manager:
-    """The manager as the follower of its heartbeats sees it."""
+    """The manager as the follower of its heartbeats sees it, where it runs in no node of the network."""
+
+    pdos: Dict[int, Pdo] = {}
 
     def __init__(self, judge):
         self.judge, self.number, self.about = judge, judge.plan.manager, ("manager",)

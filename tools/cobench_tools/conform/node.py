@@ -86,10 +86,10 @@ class Node(Presence):
 
     def boot_up(self, time, line):
         """Its boot-up message came."""
-        self.judge.landmark(keys.heartbeat(self.number), keys.BOOT_UP, time)
+        self.marks_start(time)
+        period, is_expected = self.planned.at_first, self.may_boot()
         self.first_state = self.first_state or (time, keys.BOOT_UP)
         self.first_boot = self.first_boot or Spot(time, line)
-        period, is_expected = self.planned.at_first, self.first is None or self.is_reset or self.may_have_booted
         if is_expected:
             self.set_state(PRE_OPERATIONAL, time, True)
         else:
@@ -98,11 +98,19 @@ class Node(Presence):
         self.is_reset, self.may_have_booted, self.reset_at, self.is_started = False, False, None, False
         self.hear(time, line)
         self.last_boot = Spot(time, line)
-        self.judge.startup.activity(time)
         self.boot.begin(is_expected)
         self.talk.forget()
         self.heartbeat.begin(period, time, line)
         self._rest()
+
+    def marks_start(self, time):
+        """Its boot-up message is one of the start of the machine."""
+        self.judge.landmark(keys.heartbeat(self.number), keys.BOOT_UP, time)
+        self.judge.startup.activity(time)
+
+    def may_boot(self):
+        """Whether it may boot now: nothing of it was there before, or it was reset."""
+        return self.first is None or self.is_reset or self.may_have_booted
 
     def _boots_again(self, time, line):
         """It boots though nothing reset it."""

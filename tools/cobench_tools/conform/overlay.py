@@ -61,19 +61,22 @@ class Overlay:
             content = window.content()
             yield {**content, "at": content["at"] + by, "flags": [[time + by, *rest] for time, *rest in content["flags"]]}
 
+    def told(self):
+        """The nodes that both have told of."""
+        return self.recorded.drawing.nodes | self.drawing.nodes
+
     def nodes(self):
-        """The nodes of both, the manager not among them."""
-        told = self.recorded.drawing.nodes | self.drawing.nodes
-        return sorted((set(self.network.names) | told) - {self.network.manager})
+        """The nodes of both that have a state, by number."""
+        return self.network.nodes(self.told())
 
     def lanes(self):
         """The lanes: each recorded one, and below it the planned one."""
         lanes = []
-        for node in [self.network.manager] + self.nodes():
-            name, title = self.network.name(node), f"node {node}"
+        for node in self.network.lanes(self.told()):
+            name, title = self.network.name(node), self.network.title(node) or f"node {node}"
             lanes.append([node, name, title])
             if node in self.plan.project.nodes or node == self.plan.manager:
-                lanes.append([PLANNED + node, name, f"planned, {title}", True])
+                lanes.append([PLANNED + node, name, f"planned, node {node}", True])
         others = self.recorded.drawing.others or any(self.lane_of(cause) == OTHERS for cause, _ in self.findings)
         return lanes + ([[OTHERS, "others", "sender not known"]] if others else [])
 
@@ -96,7 +99,8 @@ class Overlay:
         last = self.recorded.windows[-1].end
         found = {node: [[max(time - self.offset, 0), STATES.index(state)] for time, state in self.recorded.heard.states(node, last)]
                  for node in self.nodes()}
-        planned = states_of(list(self.plan.project.nodes), moments_of(events_of(self.plan.project, self.end), [self.window]))
+        project = self.plan.project
+        planned = states_of(list(project.nodes), moments_of(project, events_of(project, self.end), [self.window]))
         found.update((PLANNED + node, [[time + self.shift if time else 0, state] for time, state in changes])
                      for node, changes in planned.items())
         return found

@@ -37,6 +37,7 @@ class PlannedNode:
     heartbeat  the microseconds between two heartbeats, 0 for none; `at_first` those before its boot writes them
     on_error   what it does at a communication error, as 1029h:01 has it
     window     the microseconds behind SYNC within which its PDOs have to come, 0 for none
+    is_controller  whether the manager runs in it: its heartbeat is the manager's, and nobody boots it
     """
 
     def __init__(self, number, node, lines):
@@ -50,6 +51,11 @@ class PlannedNode:
         self.window = node.number_at(*WINDOW, 0x07) or 0
         self.on_error = node.number_at(*ON_ERROR, 0x05) or 0
         self.counts_syncs = bool(node.number_at(*COUNTER, 0x05))
+        self.is_controller = False
+
+    def run_manager(self, heartbeat):
+        """The manager runs in it, and sends a heartbeat each so many microseconds."""
+        self.is_controller, self.heartbeat, self.at_first = True, heartbeat, heartbeat
 
     def _expected(self, key):
         entry = self.node.device.entries.get(key)
@@ -81,6 +87,8 @@ class Plan:
         self.bit = self.bus_bit = 1000 // self.project.bitrate
         self.nodes = {number: PlannedNode(number, node, answered.lines("cdcf", number))
                       for number, node in self.wiring.nodes.items()}
+        if self.project.controller is not None:
+            self.nodes[self.manager].run_manager(self.manager_heartbeat)
         self.lines = trace.of_answer(answered.lines("trace"), answered.project)
         self.frames = [(time, key_of(identifier), data.hex().upper()) for time, identifier, data in trace.frames_of(self.lines)]
         self.landmarks, self.first_sync, self.sent = {}, None, {}
@@ -128,9 +136,9 @@ class Plan:
 
     def name(self, node):
         """A node in words, also one that isn't planned."""
-        if node == self.manager:
-            return "manager"
-        return self.evidence.node_name(node) if node in self.project.nodes else f"node {node}"
+        if node in self.project.nodes:
+            return self.evidence.node_name(node)
+        return "manager" if node == self.manager else f"node {node}"
 
     def pdo_name(self, tpdo):
         """A TPDO in words."""

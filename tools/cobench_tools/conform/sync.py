@@ -62,7 +62,7 @@ class Sync:
         self.shortest, self.longest = (self.period or 1 << 60), (self.period or 0)
         self.recent.append((1, time, number))
         self.counter = int(data, 16) if len(data) == 2 else None
-        self.judge.first_sync(time)
+        self.judge.first_sync(time, number)
         if not self.period:
             self._tell("sync-unplanned", "it isn't planned", time, number)
         elif bool(self.modulus) != bool(data):

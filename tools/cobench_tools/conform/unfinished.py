@@ -26,8 +26,9 @@ class Unfinished:
                 self._stops(node)
 
     def _unbooted(self, heard):
-        """The nodes of which a boot-up message is missing: the log begins with the planned run, and nothing says that one was up before."""
-        unbooted = [node for node in heard if node.first_boot is None]
+        """The nodes of which a boot-up message is missing: the log begins with the planned run, and nothing says that one was up before.
+        That of the controller may come behind its PDOs."""
+        unbooted = [node for node in heard if node.first_boot is None and node is not self.judge.controller]
         return unbooted if self._begins_with_the_run() and all(map(self._comes_as_planned, unbooted)) else []
 
     def _begins_with_the_run(self):
@@ -57,12 +58,13 @@ class Unfinished:
         return self.judge.end - spot.time > LONG
 
     def _is_awaited(self, node):
-        """Whether the boot of a node has to go on: the planned run starts it, the manager is there, and nobody boots any more."""
+        """Whether the boot of a node has to go on: the planned run starts it, the manager is there, and nobody boots any more.
+        The controller may start itself."""
         number, startup, since = node.number, self.judge.startup, node.last_boot.time
         is_planned = any((keys.COMMAND, f"01{target:02X}") in self.plan.landmarks for target in (number, 0))
         heard = [self.judge.sync.last, self.judge.manager.heartbeat.last]
         is_there = any(time is not None and time > since for time in heard) or not (self.plan.sync or self.plan.manager_heartbeat)
-        return is_planned and is_there and self.judge.end - max(startup.latest, since) > LONG
+        return is_planned and node is not self.judge.controller and is_there and self.judge.end - max(startup.latest, since) > LONG
 
     def _stops(self, node):
         """Reports the boot of a node behind which nothing comes."""

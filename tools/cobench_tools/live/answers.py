@@ -55,7 +55,7 @@ def node_item(evidence, node, file, before):
     """A node: its parameters and files, with what they were before the last save where that was another."""
     project = evidence.project
     name, eds = project.nodes[node]
-    return {"node": node, "name": name, "sheet": eds, "need": "mandatory" if node in project.mandatory else "optional",
+    return {"node": node, "name": name, "sheet": eds, "need": matrix.need_of(project, node),
             "file": f"{node}_{name}", "values": values_of(evidence, node, file, before),
             "dcf": readable_lines(file.lines),
             "marks": marks_of(file, before), "bytes": file.bin.hex().upper(), "isNew": before is None}
@@ -184,7 +184,7 @@ class Answers:
         """The nodes that are other than they were, that were marked by the save before, or are gone."""
         before, shown, project = self.files, self._shown, answered.project
         self.files = {node: file_of(answered, node, before.get(node)) for node in project.nodes}
-        self._shown = {node: (project.nodes[node], node in project.mandatory, project.texts[project.nodes[node][1]],
+        self._shown = {node: (project.nodes[node], matrix.need_of(project, node), project.texts[project.nodes[node][1]],
                               file.lines, file.writes) for node, file in self.files.items()}
         changed = {node for node in self.files if self._shown[node] != shown.get(node)}
         items = {f"node/{node}": None for node in before if node not in self.files}

@@ -7,6 +7,7 @@ No edit of the order is refused (docs/rules/commands.md).
 import functools
 
 from .. import script
+from ..project import CONTROLLERS
 
 # How many words behind the first one say what a command sets.
 KEY_WORDS = {b"version": 0, b"bitrate": 0, b"horizon": 0, b"manager": 0, b"time-period": 0, b"sync-counter": 0, b"eds": 1,
@@ -73,6 +74,11 @@ def first_moment(made, old, new, has_other_files):
         return 0
     keys = [(b"horizon",) if each[0] == b"horizon" else (b"event", each[1]) for each in words if each[0] in OF_NO_FILE]
     return min((moment_of(project[key]) for key in keys for project in (old, new) if key in project), default=NEVER)
+
+
+def has_controllers(project):
+    """Whether a node may have the manager's number."""
+    return int(words_of(project.get((b"version",), b"version 1\n"))[1]) >= CONTROLLERS
 
 
 class Way:
@@ -161,6 +167,9 @@ class Way:
     # Settings, data sheets and nodes.
 
     def settings(self):
+        """The settings; the manager's number is another one before a version in which no node may have it."""
+        for key in self.wanted(b"manager") if has_controllers(self.now) and not has_controllers(self.new) else []:
+            self.set(key)
         for name, first in ((b"time-period", b"time-period 0 0\n"), (b"version", b"version 1\n"),
                             (b"sync-counter", b"sync-counter 0\n")):
             if (name,) in self.gone(name):

@@ -40,7 +40,7 @@ class Follower:
         self.programs, self.answers, self.run = Programs(words, self.children), Answers(), Run()
         self.number, self.records, self.is_first = 0, [], True
         self.again, self.files, self.said = Again(), [], None
-        self.looks, self.since, self.answered, self.drawn = 0, 0.0, None, {}
+        self.looks, self.since, self.answered, self.evidence, self.drawn = 0, 0.0, None, None, {}
 
     # Looking.
 
@@ -201,7 +201,7 @@ class Follower:
         with save.step("lists"):
             answers = self.answers.copy()
             answers.rules = self.rules
-            evidence = answers.evidence(answered)
+            evidence = self.evidence = answers.evidence(answered)
             items = answers.take(answered, evidence, self.is_first)
         if self.programs.is_long or not self.programs.opened.is_answering():
             self.tell(answers, items)
@@ -236,7 +236,7 @@ class Follower:
 
     def draw(self, save, text, answers, known=None):
         """Draws the run, whole or to a moment: the items that are other than before."""
-        changed = self.run.take(text, self.answered.project, answers.sheets, known)
+        changed = self.run.take(text, self.evidence, answers.sheets, known)
         save.changed.update(changed)
         save.of_windows, save.lines = len(self.run.windows), text.count(b"\n")
         self.drawn.update({f"window/{number}": self.run.content(number) for number in changed})

@@ -1,11 +1,10 @@
 """The run of a project as the page draws it, kept by windows of ten milliseconds: what stays the same isn't made anew."""
 from collections import namedtuple
-from typing import Any, Dict, Tuple
 
-from .. import boots, findings, meaning, receiver_names
+from .. import boots, findings, meaning, pdo_writes, receiver_names
 from ..boots import is_boot_up
 from ..data_types import WHOLE
-from ..picture import OTHERS, STATES, Sorts, event_flag, events_of, first_states, go_on, in_order, told_by_node
+from ..picture import OTHERS, STATES, Sorts, event_flag, events_of, first_states, go_on, in_order, powers_of, told_by_node
 from ..trace import has_stuff_bits
 from .drawing import TextDrawing
 
@@ -101,14 +100,12 @@ def stands_at(text, place, span):
     return text.startswith(span, place) and text[end:end + DIGITS] != span[:DIGITS]
 
 
-def words_of(project, devices):
-    """What of a project the words of a trace depend on."""
+def words_of(project, devices, of_controller):
+    """What of a project, of which the controller is configured so, the words of a trace depend on."""
     messages = sorted((name, each.node, each.tpdo) for name, each in project.messages.items())
     has_all_types = project.version >= WHOLE
-    return project.manager[0], project.nodes, project.texts, has_all_types, messages, receiver_names.of_project(project, devices)
-
-
-NOTHING: Tuple[Dict[Any, Any], Dict[Any, Any]] = ({}, {})     # what a trace has told before its first line
+    return (project.manager[0], project.nodes, project.texts, has_all_types, messages, receiver_names.of_project(project, devices),
+            of_controller)
 
 
 class Run:
@@ -125,14 +122,16 @@ class Run:
         self._told, self._count, self._gone = [], 0, []
         self._at, self._differences, self._flows = None, {}, {}
 
-    def take(self, text, project, devices, known=None):
+    def take(self, text, evidence, devices, known=None):
         """Takes the text of a trace, whole or to a moment: the numbers of the windows that are other than before, or are gone."""
-        before, words = self.windows, words_of(project, devices)
+        project = evidence.project
+        of_controller = pdo_writes.of_controller(project, lambda: evidence.plan)
+        before, words = self.windows, words_of(project, devices, of_controller)
         if words != self._words or len(self.sorts.rows) > MOST_SORTS:
             before, self._words = {}, words
-            self._begin(project, devices)
+            self._begin(project, devices, of_controller)
         self._project, self._differences = project, {}
-        shown, self.windows, state, others = self.windows, {}, NOTHING, []
+        shown, self.windows, state, others = self.windows, {}, self._network.first, []
         for number, span in spans_of(text, shown):
             kept = before.get(number)
             if not kept or kept.text is not span or kept.before is not state:
@@ -144,10 +143,10 @@ class Run:
         self.windows.update({number: each for number, each in before.items() if self.known < number * WINDOW <= project.horizon})
         return sorted(others + [number for number in shown if number not in self.windows])
 
-    def _begin(self, project, devices):
+    def _begin(self, project, devices, of_controller):
         """Nothing that was drawn is of use any more, as names are others."""
         self.sorts, self._gone, self._told, self._count = Sorts(), self._gone + self._told, [], 0
-        self._network = meaning.Network(project, True, devices)
+        self._network = meaning.Network(project, True, devices, of_controller)
         self._drawing, self._at = TextDrawing(self._network, self.sorts), None
 
     def _kept(self, number, text, state, kept):
@@ -210,9 +209,8 @@ class Run:
 
     def lanes(self):
         """The lanes, as on the page."""
-        project, network = self._project, self._network
-        nodes = [project.manager[0]] + sorted(project.nodes)
-        found = [[node, network.name(node), f"node {node}"] for node in nodes]
+        network = self._network
+        found = [[node, network.name(node), network.title(node)] for node in network.lanes(set())]
         has_others = any(row[2] == OTHERS for row in self.sorts.rows)
         return found + ([[OTHERS, "others", "sender not known"]] if has_others else [])
 
@@ -230,8 +228,8 @@ class Run:
     def _states_of(self, events):
         """The states of the nodes as far as the run is known; they are worked out anew from where what changes them is other."""
         nodes, powers, found = sorted(self._project.nodes), {}, []
-        for event in (event for _, event in events if event.kind == "power"):
-            powers.setdefault(event.time // WINDOW, []).append((event.time, event.node, event.what))
+        for time, node, what in powers_of(self._project, events):
+            powers.setdefault(time // WINDOW, []).append((time, node, what))
         numbers, states = self.windows.keys() | powers.keys(), first_states(nodes)
         flows = self._flows = {number: flow for number, flow in self._flows.items() if number in numbers}
         for number in sorted(number for number in numbers if number * WINDOW <= self.known):

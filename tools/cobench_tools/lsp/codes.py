@@ -46,8 +46,10 @@ MEANINGS = {
         "Make two messages of it."),
     "E08": (
         "The device can't put this value into a PDO, or take it from one: it would abort the mapping with 06040041h. "
-        "Or a node is to take a value from itself.",
-        "Look up in the manual which entries can be mapped; read and write others by SDO."),
+        "Or a node is to take a value from itself; or the heartbeat time of the controller, which is the manager's, is to "
+        "be in a PDO.",
+        "Look up in the manual which entries can be mapped; read and write others by SDO. Set the heartbeat time of the "
+        "controller by manager."),
     "E09": (
         "The receiver would read its value from bits that hold another, or none; or, in version 3, the bits of a REAL "
         "for a whole number, or those of a whole number for a REAL: 12.75 as 1,095,499,776.",
@@ -91,9 +93,10 @@ MEANINGS = {
         "all is well."),
     "W19": (
         "Watching that node is of no use: a node that is never heard isn't missed, and one that sends too seldom is "
-        "reported as lost while it works, and the machine may stop.",
-        "Give the watched node a producer time (1017h) well below the consumer's time, or set the consumer to 0 where "
-        "the node is gone."),
+        "reported as lost while it works, and the machine may stop. No device hears a heartbeat of its own, also not the "
+        "controller that of the manager in it.",
+        "Give the watched node a producer time (1017h) well below the consumer's time, the controller by HB_MS of "
+        "manager; or set the consumer to 0 where the node is gone, or is the controller itself."),
     "W20": (
         "A line of the EDS isn't used: it is misspelled, gives a key for the second time (the first one counts), or "
         "is a CompactPDO that isn't modelled. What it should say is lost.",
@@ -116,12 +119,21 @@ MEANINGS = {
         "The device takes frames by this RPDO that are meant for others, and writes what they bring into the entries "
         "that its data sheet maps: an output or a setpoint moves by another node's value.",
         "Give the message another identifier, or let it be one for this node too."),
+    "W25": (
+        "The event does nothing: the manager runs in the controller, so that its power isn't switched, and its heartbeat "
+        "is the manager's.",
+        "Reset its device by an event nmt 129 or nmt 130; set the time of its heartbeat by HB_MS of manager. To see what "
+        "comes of a controller that loses power, give the manager a number of its own."),
     "E26": (
         "The device refuses the write with 06090031h or 06090032h; where a manager boots it with these files, its "
         "boot fails there and it isn't started. Mostly an inhibit time, an event time or a transmission type is "
         "beyond what the vendor allows.",
         "Choose a value within the limits that cobtool check names. Where it is the write that configures the PDO "
         "itself, use another PDO of the node."),
+    "W27": (
+        "The files of the controller give its heartbeat one time (1017h), and the plan of the network has another: on "
+        "the machine it comes as its files say, and those who watch it may miss it.",
+        "Set 1017h:00 of the controller by a parameter to HB_MS of manager, or that to its value."),
     "W28": (
         "The time within which the node expects frames of this message isn't set: the node doesn't take the message, "
         "or the RPDO by which it does has no event time that can be written. Where the sender falls silent, the node "

@@ -4,15 +4,15 @@ MEANINGS = {
     "version": (
         "1, 2 or 3: the version of the script. In version 1 no node is mandatory, and the manager starts each node by "
         "itself; from version 2 on it starts the network as a whole, in version 3 node by node. In version 3 frames have "
-        "their stuff bits, and PDOs are taken as vendors make them"),
+        "their stuff bits, PDOs are taken as vendors make them, and a node may have the manager's number"),
     "bitrate": (
         "10, 20, 50, 125, 250, 500 or 1000 kbit/s"),
     "horizon": (
         "0 to 10,000,000 microseconds: where the simulation ends"),
     "manager": (
-        "the manager's number 1 to 127; the time between two SYNC messages, 0 for none or 1,000 to 10,000,000 "
-        "microseconds; its heartbeat's producer time, 0 for none, to 65,535 ms; the longest wait for an SDO answer, 1 "
-        "to 65,535 ms"),
+        "the manager's number 1 to 127, in version 3 also that of a node: the manager runs in that node, the controller; "
+        "the time between two SYNC messages, 0 for none or 1,000 to 10,000,000 microseconds; its heartbeat's producer time, "
+        "0 for none, to 65,535 ms; the longest wait for an SDO answer, 1 to 65,535 ms"),
     "time-period": (
         "in version 3: the manager sends TIME (CiA 301, the time stamp) each US microseconds, 1,000 to 10,000,000; the run "
         "begins at midnight of the day DAYS, 0 to 65,535. US 0 is none, and DAYS isn't kept then"),
@@ -24,10 +24,11 @@ MEANINGS = {
     "drop-eds": (
         "takes the text of an EDS away"),
     "node": (
-        "ID 1 to 127; a known ID gets the new name and EDS, and keeps its need and its parameters; a new one is "
-        "optional. Names of nodes differ"),
+        "ID 1 to 127, the manager's in version 3 alone; a known ID gets the new name and EDS, and keeps its need and its "
+        "parameters; a new one is optional. Names of nodes differ"),
     "need": (
-        "from version 2 on: the manager starts the network once each mandatory node is configured (CiA 302)"),
+        "from version 2 on: the manager starts the network once each mandatory node is configured (CiA 302); of the "
+        "controller it asks for nothing"),
     "drop-node": (
         "takes a node away, with its need and its parameters"),
     "param": (
@@ -62,8 +63,9 @@ MEANINGS = {
         "in version 3: takes the receive of a node away"),
     "event": (
         "at TIME, 0 to 10,000,000 microseconds, the node's application sets an entry. K is 1 to 10,000; a known K is "
-        "replaced. INDEX as in param; the node's power is switched; the manager sends an NMT command: 1 start, 2 "
-        "stop, 128 enter pre-operational, 129 reset node, 130 reset communication; ID 0 means all nodes"),
+        "replaced. INDEX as in param; the node's power is switched; that of the controller isn't; the manager sends an NMT "
+        "command: 1 start, 2 stop, 128 enter pre-operational, 129 reset node, 130 reset communication; ID 0 means all "
+        "nodes"),
     "drop-event": (
         "takes an event away"),
     "dcf": (

@@ -10,7 +10,7 @@ from ..data_types import BOOLEAN, are_unlike, type_name
 from ..forms import CHOICES, FORMS, usage
 from ..limits import LIMITS
 from ..meaning import SERVICES
-from ..project import RATES
+from ..project import CONTROLLERS, RATES
 from ..wiring import RPDO, TPDO, pdo_numbers
 from . import command_words, entries
 from .asked import AskedPlace, Params, Server
@@ -160,6 +160,8 @@ def nodes(cursor):
     if cursor.name == "node":
         free = next((each for each in range(1, 128) if each not in project.nodes and each != project.manager[0]), None)
         yield from [item(str(free), VALUE, "free")] if free else []
+        if project.version >= CONTROLLERS and project.controller is None:
+            yield item(str(project.manager[0]), VALUE, "the controller, which the manager runs in")
     for node, (name, eds) in sorted(project.nodes.items()):
         if may_be_named(cursor, node):
             yield item(str(node), VARIABLE, f"{name} ({eds})", also=name)

@@ -5,7 +5,7 @@ from .. import safe_text
 from ..device import object_name
 from ..forms import FORMS, usage
 from ..load import Analysis, most
-from ..matrix import when, within
+from ..matrix import need_of, when, within
 from ..meaning import PREDEFINED
 from ..picture import STATES
 from ..plan import SERVICES
@@ -93,7 +93,7 @@ def of_node(number, state):
     if number not in project.nodes:
         return "the manager" if number == project.manager[0] else None
     name, eds = project.nodes[number]
-    need = "mandatory" if number in project.mandatory else "optional"
+    need = need_of(project, number)
     dcf, cdcf = answered.lines("dcf", number), answered.lines("cdcf", number)
     size = sum(len(line.split()) for line in cdcf)
     lines = [f"**node {number} {name}**", "", f"data sheet {eds}, {need}", *of_run(number, state),
@@ -106,8 +106,9 @@ def of_run(number, state):
     if state.boots is None:
         return ["the run isn't there yet"]
     ends = [boot.end for boot in state.boots.get(number, []) if boot.is_configured()]
+    is_booted = number != state.project.controller
     states = state.run.about()["states"].get(number) or [[0, 0]]
-    booted = f"configured at {ends[0] / 1000:,.3f} ms" if ends else "never configured"
+    booted = f"configured at {ends[0] / 1000:,.3f} ms" if ends else "never configured" if is_booted else "nobody boots it"
     return [f"{STATES[states[-1][1]]} at the end of the run, {state.project.horizon / 1000:,.3f} ms; {booted}"]
 
 

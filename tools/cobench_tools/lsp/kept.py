@@ -91,7 +91,7 @@ class Kept:
     def take_run(self, state):
         """Asks for the run of the last state, and has it say what it shows."""
         text = self.programs.trace()
-        self._run.take(text, state.project, self._answers.sheets)
+        self._run.take(text, state.evidence, self._answers.sheets)
         state.take_run(self._run, text)
 
     def rest(self):

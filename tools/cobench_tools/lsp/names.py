@@ -4,6 +4,7 @@ from __future__ import annotations
 from .. import script as scripts
 from .. import tool
 from ..forms import NAME
+from ..project import CONTROLLERS
 from . import entries
 from .asked import AskedPlace, Params, Server
 from .outline import EVENT, NODE, NODE_NAME, number
@@ -140,11 +141,16 @@ def check_name(asked, named, new):
     for outline in asked.outlines():
         if new != named.name and outline.all_of(named.what, new):
             raise tool.Fault(f"{named.what} {new} is there already")
-        if named.what == NODE and new in managers(outline):
+        if named.what == NODE and new in first_words(outline, b"manager") and not may_be_controller(outline):
             raise tool.Fault(f"{new} is the manager's number")
 
 
-def managers(outline):
-    """The numbers that the manager has in a script."""
-    managers_of = [each for each in outline.commands if each.name == b"manager"]
-    return {word.decode("utf-8", "replace") for each in managers_of for word in each.words[1:2]}
+def first_words(outline, name):
+    """The first words behind the commands of a name."""
+    return [word.decode("utf-8", "replace") for each in outline.commands if each.name == name for word in each.words[1:2]]
+
+
+def may_be_controller(outline):
+    """Whether a node of a script may have the manager's number."""
+    versions = [number(word) or 1 for word in first_words(outline, b"version")]
+    return bool(versions) and versions[-1] >= CONTROLLERS

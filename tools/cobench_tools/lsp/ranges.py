@@ -16,7 +16,8 @@ OF_CODE = {
     "W19": ("TEXT",), "W21": ("TEXT",), "E05": ("TPDO", "START", "INDEX"), "E06": ("TPDO",), "E07": ("NAME",),
     "E08": ("INDEX", "SUB"), "E09": ("INDEX", "SUB"), "E10": ("ID",), "E11": ("ID",), "E12": ("COB",), "E13": ("COB",),
     "E14": ("TYPE",), "E15": ("COB",), "W17": ("TYPE",), "W18": ("TYPE",), "W22": ("START",),
-    "W23": ("ID", "NAME"), "W24": ("ID", "NAME"), "W28": ("RPDO", "MS"),
+    "W23": ("ID", "NAME"), "W24": ("ID", "NAME"), "W25": ("power", "ON_OFF", "INDEX", "SUB"), "W27": ("TEXT",),
+    "W28": ("RPDO", "MS"),
     "failed": ("ID", "NAME"), "unconfigured": ("ID", "NAME"), "no-source": ("NAME",), "no-sink": ("NAME",),
     "late-event": ("TIME",), "bit-rate": ("RATE",), "receive-time": ("MS",),
 }

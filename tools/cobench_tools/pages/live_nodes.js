@@ -107,13 +107,14 @@ class NodeCard {
       return;
     }
     const last = run.stateNames[states[states.length - 1][1]];
-    const time = boots ? boots.times[this.node.node] : undefined, shown = `${last} ${time}`;
+    const time = boots ? boots.times[this.node.node] : undefined, isManager = this.node.need === "manager";
+    const shown = `${last} ${time} ${isManager}`;
     if (shown === this.shown) return;
     this.shown = shown;
     this.state.replaceChildren(element("i", { class: last, style: `background: var(--${last})` }), last);
     this.state.title = "state at the end of the run";
-    this.booted.textContent = time === undefined ? "not configured" : `configured at ${shownTime(time)}`;
-    this.element.classList.toggle("unconfigured", time === undefined);
+    this.booted.textContent = isManager ? "the manager" : time === undefined ? "not configured" : `configured at ${shownTime(time)}`;
+    this.element.classList.toggle("unconfigured", time === undefined && !isManager);
   }
 
   fill() {

@@ -17,7 +17,8 @@ is (1000h, 1018h) and writes its concise DCF in order. Then each value is read b
 and the node is started: by version 1 each by itself once it is configured, by
 version 2 all by one command once all mandatory ones are, and by version 3 then each
 by itself. A node that isn't configured is never started: where one failed that
-needn't be there, the others are started one by one.
+needn't be there, the others are started one by one. The node that is the manager
+itself is left out unless it is named.
 
 What goes wrong ends the boot of that node, and is reported with the line of SCRIPT
 that gives the value, and how far the writes came:
@@ -104,7 +105,7 @@ def state_text(download: Download) -> str:
 
 def run(options: argparse.Namespace) -> int:
     plan = planned.Planned(options.script, options.cobench)
-    nodes, errors = plan.chosen(options.nodes), plan.own_errors(options)
+    nodes, errors = plan.to_boot(options.nodes), plan.own_errors(options)
     asked.check(options, [f"{plan.path} has {counted(errors, 'error')}, which cobtool check tells"] if errors else [])
     with connection.opened(options, plan.project.bitrate) as bus:
         others = neighbours.listened(bus, options, plan.manager)

@@ -54,14 +54,15 @@ class Plan:
         twice = f"{found.answers} devices have this number; " if found.answers > 1 else ""
         if found.numbers is None:
             return twice + found.why, not (self.is_there() or twice)
-        if number == self.manager:
+        if number == self.manager and number not in self.nodes:
             return f"{twice}the manager", not twice
         if number not in self.nodes:
             return twice + self.unplanned(found), not (self.is_there() or twice)
         name, eds = self.nodes[number]
         wrong = identity.differences(identity.expected(self.sheets[eds], number), found.numbers)
         also = self.fits(found) if wrong else ""
-        return twice + f"{name}" + "".join(f"; {each}" for each in wrong) + also, not wrong and not twice
+        manager = ", the manager" if number == self.manager else ""
+        return twice + f"{name}{manager}" + "".join(f"; {each}" for each in wrong) + also, not wrong and not twice
 
     def unplanned(self, found: Found) -> str:
         return f"not planned{self.fits(found)}" if self.is_there() else "there"

@@ -1,4 +1,4 @@
-use Rattle.std.proofs.Common.{false, length, refl, subst, arith}
+use Rattle.std.proofs.Common.{false, refl, subst, arith}
 use Rattle.std.proofs.lemmas.List.{take_all}
 use Rattle.bus_devices.specs.Blocks.{IsBestOf}
 use Rattle.co_device.specs.Device.{without_power}

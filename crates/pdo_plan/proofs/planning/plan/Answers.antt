@@ -21,7 +21,7 @@ OfLinked e = IsLinked e.1
 pub messages-init : goal.messages-init
 unfolding plan_of
 messages-init c =
-    let devices = devices_of c.args.is_three (nodes_of c.args.nodes.now) in
+    let devices = devices_of c.args.is_three c.args.controller (nodes_of c.args.nodes.now) in
     let withheld = withheld_by devices (entries c.args.messages.now) in
     let none : c.new-plan.result.items ≡ [] = c.new-plan.ensures.items in
     let all : by_name c.into_iter-name-iterator.result ≡ entries c.args.messages.now = search rules in
@@ -53,7 +53,7 @@ take_clean-requires c =
 
 pub messages-preserved : goal.messages-preserved
 messages-preserved c =
-    let devices = devices_of c.args.is_three (nodes_of c.args.nodes.now) in
+    let devices = devices_of c.args.is_three c.args.controller (nodes_of c.args.nodes.now) in
     let withheld = withheld_by devices (entries c.args.messages.now) in
     let ps : List PlannedMessage = c.messages.plan.items in
     let m : List ℕ × Linked = (c.in-Some.name.now.items, c.in-Some.linked.now) in

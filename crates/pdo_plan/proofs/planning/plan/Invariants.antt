@@ -14,11 +14,11 @@ use Rattle.pdo_plan.proofs.planning.plan.Given as goal
 -- their limits
 abbrev pub invariant-messages : goal.invariant-messages
 invariant-messages l = record {
-  whole : l.plan.items ++ plan_after (withheld_by (devices_of l.is_three (nodes_of l.nodes)) (entries l.messages))
-      (devices_of l.is_three (nodes_of l.nodes)) (clean l.plan.items) (by_name l.name-iterator)
-      ≡ plan_of (devices_of l.is_three (nodes_of l.nodes)) (entries l.messages);
-  stations : devices_known l.taken ≡ devices_of l.is_three (nodes_of l.nodes);
-  taken : had_in l.taken ≡ had_by (withheld_by (devices_of l.is_three (nodes_of l.nodes)) (entries l.messages)) (clean l.plan.items);
+  whole : l.plan.items ++ plan_after (withheld_by (devices_of l.is_three l.fn.controller (nodes_of l.nodes)) (entries l.messages))
+      (devices_of l.is_three l.fn.controller (nodes_of l.nodes)) (clean l.plan.items) (by_name l.name-iterator)
+      ≡ plan_of (devices_of l.is_three l.fn.controller (nodes_of l.nodes)) (entries l.messages);
+  stations : devices_known l.taken ≡ devices_of l.is_three l.fn.controller (nodes_of l.nodes);
+  taken : had_in l.taken ≡ had_by (withheld_by (devices_of l.is_three l.fn.controller (nodes_of l.nodes)) (entries l.messages)) (clean l.plan.items);
   within : All IsWithin (clean l.plan.items);
   rest : All (λ e. IsLinked e.1) (by_name l.name-iterator);
 }

@@ -13,5 +13,5 @@ returns c =
     let within : place < length frames = rw c.deref.ensures.value at there.3.0 in
     let is = rw c.deref.ensures.value at there.1 in
     rw (← c.self.view_is)
-    (first_wins c.args.node frames place c.id.result c.self.invariant within (c.id.ensures.id
+    (first_wins c.args.sender frames place c.id.result c.self.invariant within (c.id.ensures.id
     ∙ ap (λ (w : Waiting). w.frame.id) is ∙ sym (identifier_at frames place waiting within)))

@@ -1,5 +1,5 @@
 use Rattle.std.proofs.Common.{true, refl, arith}
-use Rattle.device_agenda.specs.Alarms.{agenda_by, is_now}
+use Rattle.device_agenda.specs.Alarms.{agenda_by}
 use Rattle.device_agenda.proofs.AlarmLemmas.{earlier_at, either_now}
 use Rattle.device_agenda.proofs.PlanLemmas.{of_both}
 use Rattle.device_agenda.proofs.alarm.Alarm.and.Goals as goal

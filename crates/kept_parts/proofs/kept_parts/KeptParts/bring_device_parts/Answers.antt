@@ -1,10 +1,10 @@
-use Rattle.std.proofs.Common.{[], ◌∷◌, option_map, sym, ap, subst, ◌∙◌}
+use Rattle.std.proofs.Common.{[], ◌∷◌, ◌++◌, option_map, sym, ap, subst, ◌∙◌}
 use Rattle.kept_values.specs.Shelved.{kept_at, Shelved}
 use Rattle.kept_values.specs.Stale.{AreBrought}
 use Rattle.kept_values.proofs.Brought.{both, refreshes_none}
 use Rattle.kept_parts.specs.Kept.{kept_inputs, IsOf}
 use Rattle.project_parts.specs.Given.{inputs_of, same_part}
-use Rattle.project_parts.specs.Reached.{own_device}
+use Rattle.project_parts.specs.Reached.{for_own, own_device}
 use Rattle.project_parts.specs.declared.device_at.DeviceAt.{DeviceAt}
 use Rattle.project_parts.specs.declared.part.Part.TheVariants as part
 use Rattle.kept_parts.specs.declared.kept_parts.KeptParts.{KeptParts}
@@ -36,7 +36,7 @@ returns-then-settle-clause-brings c =
     let first = c.bring_numbered.new in
     let now = option_map (λ d. d) c.in_ok-now.now in
     let current = c.settle.ensures.same.0 c.if-settle.true in
-    both same_part (inputs_of p) (own_device p key) (part.Node key ∷ []) (kept_inputs c.args.self.now)
+    both same_part (inputs_of p) (for_own p key ++ own_device p key) (part.Node key ∷ []) (kept_inputs c.args.self.now)
     (kept_inputs first.self) _ c.args.meter.now first.meter first.meter c.in_ok-now.ensures.brings
     (node_brought p first.self c.in_ok-now.ensures.is_of key c.settle.new.self now
     (offered_is c.in_ok-now.now _ c.in_ok-now.ensures.value)
@@ -82,7 +82,7 @@ returns-clause-brings c =
     let old = offered_is c.in_ok-now.now _ c.in_ok-now.ensures.value in
     let stale = other_kept (kept_at first.self.nodes key) (kept_at last.nodes key) _ _ c.settle.result old
     c.settle.ensures.same.1 c.if-settle.false (ap (λ (k : KeptParts). kept_at k.nodes key) same) in
-    both same_part (inputs_of p) (own_device p key) (part.Node key ∷ []) (kept_inputs c.args.self.now)
+    both same_part (inputs_of p) (for_own p key ++ own_device p key) (part.Node key ∷ []) (kept_inputs c.args.self.now)
     (kept_inputs first.self) _ c.args.meter.now first.meter n c.in_ok-now.ensures.brings
     (subst (λ (k : KeptParts). AreBrought same_part (inputs_of p) (part.Node key ∷ []) (kept_inputs k)
     (kept_inputs (with_nodes last c.build.new.self)) first.meter n)

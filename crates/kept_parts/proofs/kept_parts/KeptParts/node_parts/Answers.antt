@@ -8,7 +8,7 @@ use Rattle.kept_parts.proofs.kept_parts.KeptParts.node_parts.Goals as goal
 
 pub returns-in_default : goal.returns-in_default
 returns-in_default c =
-    no_parts c.args.project.now c.args.self.now c.args.id (own_parts c.args.id)
+    no_parts c.args.project.now c.args.self.now c.args.id (own_parts c.args.project.now c.args.id)
     (sym (ap option_copied c.in_default.is) ∙ c.value.ensures
     ∙ node_held c.args.project.now c.args.self.now c.args.id c.requires)
 

@@ -1,5 +1,4 @@
 use Rattle.std.proofs.Common.{subst}
-use Rattle.co_scenario.specs.Scenario.{Events}
 use Rattle.project_parts.specs.Touch.{touch_of, Touch}
 use Rattle.project_parts.specs.Touched.{goes_into, is_wrong, is_touched}
 use Rattle.kept_parts.specs.Marks.{Marks}
@@ -15,9 +14,8 @@ returns-clause-marks c =
     let first = c.touch_found.new.self in
     let last = c.mark.new.self in
     known_marks (is_touched p e) old last c.stays_swept-swept.result
-    (both_marks is_wrong (goes_into p.events (touch_of e)) old first last c.touch_found.ensures
-    (subst (λ (events : Events). Marks (goes_into events (touch_of e)) first last) c.events.ensures
-    (subst (λ (t : Touch). Marks (goes_into c.events.result.now t) first last) c.touch_of.ensures c.mark.ensures)))
+    (both_marks is_wrong (goes_into p (touch_of e)) old first last c.touch_found.ensures
+    (subst (λ (t : Touch). Marks (goes_into p t) first last) c.touch_of.ensures c.mark.ensures))
 
 pub returns-clause-held : goal.returns-clause-held
 returns-clause-held c = (returns-clause-marks c).kept
