@@ -30,6 +30,6 @@ abbrev pub has_access_for : Direction → Access → Bool
 has_access_for Transmit access = is_sendable access
 has_access_for Receive access = is_receivable access
 
--- an entry that a PDO of this direction can map: PDOMapping says so, it is BOOLEAN or an integer, and its access fits
+-- an entry that a PDO of this direction can map: PDOMapping says so, its type has a fixed width, and its access fits
 abbrev pub is_mappable : Direction → Entry → Bool
 is_mappable direction entry = entry.mappable && is_some (width_bits entry.kind) && has_access_for direction entry.access

@@ -23,6 +23,11 @@ use project_parts::{
 use project_plan::Named;
 use std::alloc::AllocError;
 
+/// Whether the plan reads all that the device of a node has: in version 3 always, before it where a message names the node.
+fn reads_all(project: &Project, named: &Named, node: u8) -> bool {
+    project.version().is_three() || named.contains(node)
+}
+
 impl KeptParts {
     /// Brings the device of an EDS up to date, and shares it.
     pub(crate) fn bring_device(
@@ -70,8 +75,8 @@ impl KeptParts {
         Ok(devices)
     }
 
-    /// The devices of all nodes, where none has a mark: those of nodes that messages name with what they
-    /// have alike at every node.
+    /// The devices of all nodes, where none has a mark: those that the plan reads whole with what they have alike at
+    /// every node.
     fn devices_for_plan(&mut self, project: &Project) -> Result<NodeDevices, AllocError>
         requires is_of { IsOf project.now self.old }
         requires unmarked { HaveNoMark self.old (of_nodes project.now) }
@@ -82,7 +87,7 @@ impl KeptParts {
         let mut devices = NodeDevices::new(self.alloc);
         for (number, node) in project.nodes() {
             let name = node.eds.as_slice();
-            let many = named.contains(*number);
+            let many = reads_all(project, &named, *number);
             let device = self.devices.shared(self.alloc, name, many)?;
             devices.push(*number, device)?;
         }

@@ -67,11 +67,14 @@ impl Seat {
         self.slot.kept.inputs().is_text(is_three, text)
     }
 
-    /// The device.
+    /// The device, with what it has alike at every node once that was found.
     pub fn device(&self) -> &Shared<DataSheet>
         ensures { result.now ≡ sheet_made self.now.kept }
     {
-        self.slot.kept.value()
+        match &self.common {
+            Some(common) => common,
+            None => self.slot.kept.value(),
+        }
     }
 
     /// The shape that it has at every node, or that the device before had, if one is known. Takes constant time and

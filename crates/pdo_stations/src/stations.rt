@@ -57,8 +57,8 @@ fn is_of_manager(controller: Option<u8>, node: u8, place: (u16, u8)) -> bool
 
 impl Stations {
     /// Looks the devices of nodes up, by the rules of version 3 or not, where the manager runs in this one, if in any.
-    /// Of two nodes with one number the first counts. Takes time by the number of the devices' entries and its logarithm, and in version 3
-    /// memory by it.
+    /// Of two nodes with one number the first counts. Takes time by the number of the devices' entries and its
+    /// logarithm, and in version 3 memory by it.
     pub fn new(
         alloc: Global,
         is_three: bool,
