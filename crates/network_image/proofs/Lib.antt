@@ -8,6 +8,7 @@ pub mod OwnLemmas
 pub mod PartsLemmas
 pub mod PointerLemmas
 pub mod RosterLemmas
+pub mod MandatoryLemmas
 pub mod StepLemmas
 pub mod WindowLemmas
 pub mod MomentLemmas

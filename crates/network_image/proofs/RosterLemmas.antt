@@ -91,7 +91,7 @@ keys_differ [] sorted = tt
 keys_differ (e ∷ es) sorted = (apart e.0 es (first_part _ _ sorted), keys_differ es (second_part _ _ sorted))
 
 -- what holds of each key of a table holds of each that a test leaves
-keys_left : {X : Type 0} (P : ℕ → Type 0) (test : ℕ × X → Bool) (es : List (ℕ × X))
+pub keys_left : {X : Type 0} (P : ℕ → Type 0) (test : ℕ × X → Bool) (es : List (ℕ × X))
     → AllByRecursion P (keys_of es) → AllByRecursion P (keys_of (filter test es))
 keys_left P test [] all = tt
 keys_left P test (e ∷ es) all = by (test e) (keys_left P test es all.1)

@@ -1,5 +1,6 @@
 //! Laws of the image of a project.
-ghost use Rattle.std.specs.Prelude.{◌≡◌, ◌↔◌, ℕ, true, Contains, List, None, Some};
+ghost use Rattle.std.specs.Prelude.{◌≡◌, ◌≢◌, ◌↔◌, ℕ, true, Contains, List, None, Some};
+ghost use Rattle.std.specs.List.{AllByRecursion};
 ghost use Rattle.eds_device.specs.Sheets.{sheet_of};
 ghost use Rattle.project_edits.specs.Versions.{is_three};
 ghost use Rattle.co_project.specs.declared.node.Node.{Node as member};
@@ -7,17 +8,22 @@ ghost use Rattle.co_project.specs.Project.{is_controller, Content as Project};
 ghost use Rattle.co_project.specs.Sound.{IsSound};
 ghost use Rattle.co_project.specs.Tables.{node_at, text_at};
 ghost use Rattle.image_parts.specs.Configured.{HoldsItsWrites};
+ghost use Rattle.image_parts.specs.Contents.{roster_of};
 ghost use Rattle.image_parts.specs.Images.{IsCoherent, IsImage};
+ghost use Rattle.image_parts.specs.declared.part.Part.TheVariants as part;
 ghost use Rattle.project_plan.specs.Events.{shape_of_node};
 ghost use Rattle.network_image.specs.Image.{image_of, window_steps};
 ghost use Rattle.co_scenario.specs.declared.timed_step.TimedStep.{TimedStep};
 ghost use Rattle.network_image.specs.Steps.{IsStepIn};
 ghost use Rattle.network_image.specs.Parts.{HasNoParts, HasParts};
 
-/// What holds of every image holds of that of each project, and it is coherent.
+/// What holds of every image holds of that of each project, and it is coherent. The manager waits for no node that it
+/// runs in: none of the mandatory nodes has its number.
 pub fn the_image_is_coherent()
     ensures image { (project : Project) → IsSound project → IsImage (image_of project) }
     ensures coherent { (project : Project) → IsCoherent (image_of project) }
+    ensures mandatory { (project : Project) → AllByRecursion (λ n. n ≢ (roster_of (image_of project part.Roster)).manager)
+        (roster_of (image_of project part.Roster)).mandatory }
 {}
 
 /// The steps of a window are what the events of its 10,000 microseconds do, each with the time and the

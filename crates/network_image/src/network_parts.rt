@@ -82,7 +82,7 @@ impl NetworkParts {
         some_pointer(&self.roster)
     }
 
-    /// The values of a node by its EDS, or none.
+    /// The values that a node takes at power-on and reset, or none.
     pub fn defaults(&self, node: u8) -> Result<Option<Rc<Dict>>, AllocError>
         ensures { IfOk result (λ r. image_held self.now (part.Defaults node) ≡ DefaultsAre (value_behind r)) }
     {

@@ -1,21 +1,21 @@
 -- What the manager reads of a frame, and what an instant reads.
-use Rattle.std.proofs.Common.{◌≡◌, ℕ, suc, ◌+◌, Bool, true, false, List, [], ◌∷◌, All, length, Option, Some, None, inl}
-use Rattle.std.proofs.Common.{inr, refl, sym, ap, ◌∙◌, subst, arith}
+use Rattle.std.proofs.Common.{◌≡◌, ◌≢◌, ℕ, suc, ◌+◌, ◌<◌, Bool, true, false, List, [], ◌∷◌, All, length, Option, Some}
+use Rattle.std.proofs.Common.{None, inl, inr, refl, sym, ap, ◌∙◌, subst, arith}
 use Rattle.std.specs.Prelude.{Contains, ◌==◌, if◌then◌else◌}
-use Rattle.std.proofs.lemmas.List.Elements.{All-from_recursion}
+use Rattle.std.proofs.lemmas.List.Elements.{All-from_recursion, Contains-get_or}
 use Rattle.image_parts.specs.Asking.{Answer, outcome, reads}
 use Rattle.image_parts.specs.Each.{each}
 use Rattle.bus_devices.specs.Events.{after_events_at, after_event, after_power_at}
 use Rattle.bus_devices.specs.Steps.{steps_due}
 use Rattle.image_parts.proofs.EachLemmas.{reads_each}
-use Rattle.bus_devices.proofs.EventLemmas.{reads_events}
+use Rattle.bus_devices.proofs.EventLemmas.{happens_nmt, happens_set, reads_events}
 use Rattle.can_frame.specs.Identifiers.{error_control_id, sdo_answer_id}
 use Rattle.can_frame.specs.Senders.{device_sender, manager_sender}
 use Rattle.co_device.specs.Device.{Device, after_power, after_reset_node}
 use Rattle.image_parts.specs.Contents.{Content, Image, identity_of}
 use Rattle.image_parts.specs.declared.identity.Identity.{Identity}
 use Rattle.image_parts.specs.declared.part.Part.{Part}
-use Rattle.image_parts.specs.declared.part.Part.TheVariants.{Defaults, Expect, Shape}
+use Rattle.image_parts.specs.declared.part.Part.TheVariants.{Boot, Defaults, Expect, Shape}
 use Rattle.co_scenario.specs.declared.step.Step.{Step}
 use Rattle.co_scenario.specs.declared.step.Step.TheVariants.{Nmt, Power, Set}
 use Rattle.co_scenario.specs.declared.timed_step.TimedStep.{TimedStep}
@@ -26,7 +26,7 @@ use Rattle.sdo_client.specs.declared.client_transfer.ClientTransfer.{ClientTrans
 use Rattle.device_agenda.specs.Agenda.{hears}
 use Rattle.nmt_boot.proofs.EventLemmas.{answered_reads, boots_reads}
 use Rattle.nmt_boot.specs.Manager.{Manager, after_boot_at, after_boot_up, after_frame, after_own_boot_up, after_sdo_frame, has_boot_up_byte}
-use Rattle.manager_nodes.specs.Table.{is_own, node_at, place_of}
+use Rattle.manager_nodes.specs.Table.{is_own, no_node, node_at, place_of}
 use Rattle.node_boot.specs.Boot.{after_compare, after_write, boot_nmt_slave, check_identity, compared_next}
 use Rattle.node_boot.specs.Boot.{download_configuration, is_as_expected, next_compared, sdo_answer}
 use Rattle.node_boot.specs.declared.boot_stage.BootStage.{BootStage}
@@ -38,13 +38,12 @@ use Rattle.can_bus.proofs.InstantLemmas.{begun, reads_delivery, reads_instant, r
 use Rattle.can_bus.proofs.ManagerLemmas.{reads_managed}
 use Rattle.can_bus.proofs.NodeLemmas.{reads_nodes}
 use Rattle.can_bus.proofs.WindowLemmas.{reads_events_run}
-use Rattle.network_laws.specs.Boots.{IsBootUpOf}
-use Rattle.network_laws.specs.Reads.{AsksForWrite, AsksForWriteNow, IsReadAt, IsReadAtDelivery, IsReadByDevice}
-use Rattle.network_laws.specs.Reads.{IsReadByEvents, IsReadByManager}
+use Rattle.network_laws.specs.Reads.{AsksForWrite, AsksForWriteNow, BeginsBoot, IsReadAt, IsReadAtDelivery}
+use Rattle.network_laws.specs.Reads.{IsReadByDevice, IsReadByEvents, IsReadByManager, IsReadToBoot}
 use Rattle.network_laws.proofs.ReadLemmas.{AreFor, both_for, frame_reads, it_is, it_is_not, picked, weaker}
-use Rattle.network_laws.proofs.StageLemmas.{found_is, is_boot}
-use Rattle.network_laws.proofs.SwitchLemmas.{switch_reads}
-use Rattle.network_laws.proofs.ThroughLemmas.{events_keep_wire}
+use Rattle.network_laws.proofs.StageLemmas.{found_is, found_within, is_boot}
+use Rattle.network_laws.proofs.SwitchLemmas.{switch_holds, switch_reads}
+use Rattle.network_laws.proofs.ThroughLemmas.{begun_keeps_manager, events_keep_wire}
 
 -- ---- the manager and a frame
 
@@ -52,9 +51,13 @@ module _ (image : Image) (t : ℕ) (slot : Slot) (m : Manager) where
   abbrev R : Part → Type 0
   R part = IsReadByManager image slot m part
 
-  module _ (k : ℕ) where
+  module _ (k : ℕ) (within : k < length m.nodes) where
     abbrev number : ℕ
     number = (node_at m.nodes k).number
+
+    -- it is read to boot this node
+    to_boot : (part : Part) → IsReadToBoot image slot (node_at m.nodes k) part → R part
+    to_boot part why = (node_at m.nodes k, (Contains-get_or m.nodes k no_node within, why))
 
     -- the first write, once no number is left to be compared
     checked_reads : (deadline : ℕ) (expected : Identity) (place : ℕ)
@@ -65,14 +68,14 @@ module _ (image : Image) (t : ℕ) (slot : Slot) (m : Manager) where
       where
         by : (next : Option ℕ) → (next ≡ None → AsksForWriteNow image slot (node_at m.nodes k) 0)
             → AreFor R (reads (compared_next deadline number expected next) image)
-        by None asks = (inr (k, (0, (refl, asks refl))), tt)
+        by None asks = (to_boot (Boot number 0) (inr (0, (refl, asks refl))), tt)
         by (Some left) asks = tt
 
-    booted_reads : (deadline : ℕ) → IsBootUpOf number (Some slot)
+    booted_reads : (deadline : ℕ) → BeginsBoot slot (node_at m.nodes k)
         → AreFor R (reads (boot_nmt_slave deadline number) image)
     unfolding boot_nmt_slave
     booted_reads deadline b = (
-      inl (number, (refl, b)),
+      to_boot (Expect number) (inl (refl, b)),
       checked_reads deadline (identity_of (image (Expect number))) 0 (λ e. inr (refl, (b, e))),
     )
 
@@ -100,17 +103,13 @@ module _ (image : Image) (t : ℕ) (slot : Slot) (m : Manager) where
       write_reads place transfer old at left None e = tt
       write_reads place transfer old at left (Some (progress.Ask request)) e = tt
       write_reads place transfer old at left (Some progress.Written) e = (
-        inr (
-          k,
+        to_boot (Boot number (place + 1)) (inr (
+          place + 1,
           (
-            place + 1,
-            (
-              refl,
-              inl (subst (λ (stage : BootStage). AsksForWrite number slot stage (place + 1)) (sym at)
-                  (refl, (id, e))),
-            ),
+            refl,
+            inl (subst (λ (stage : BootStage). AsksForWrite number slot stage (place + 1)) (sym at) (refl, (id, e))),
           ),
-        ),
+        )),
         tt,
       )
       write_reads place transfer old at left (Some (progress.Read bytes)) e = tt
@@ -134,14 +133,15 @@ module _ (image : Image) (t : ℕ) (slot : Slot) (m : Manager) where
       → has_boot_up_byte slot.frame.bytes ≡ true → AreFor R (reads (after_boot_up t place m) image)
   unfolding after_boot_up
   boot_up_reads None e b = tt
-  boot_up_reads (Some k) e b = either (is_own (node_at m.nodes k).stage)
+  boot_up_reads (Some k) e b = either (is_own (node_at m.nodes k).stage) refl
     where
-      either : (x : Bool)
+      either : (x : Bool) → is_own (node_at m.nodes k).stage ≡ x
           → AreFor R (reads (if x then Answer (after_own_boot_up k m, []) else after_boot_at t k m) image)
-      either true = tt
-      either false =
-          rw (boots_reads t k m image) (booted_reads k (t + m.timeout)
-          (found_is (error_control_id 0) slot.frame.id m.nodes k e, is_boot slot.frame.bytes b))
+      either true itself = tt
+      either false other =
+          rw (boots_reads t k m image)
+          (booted_reads k (found_within (error_control_id 0) slot.frame.id m.nodes k e) (t + m.timeout)
+          (other, (found_is (error_control_id 0) slot.frame.id m.nodes k e, is_boot slot.frame.bytes b)))
 
   sdo_reads : (place : Option ℕ) → place_of (sdo_answer_id 0) slot.frame.id m.nodes ≡ place
       → AreFor R (reads (after_sdo_frame t slot.frame.bytes place m) image)
@@ -149,7 +149,8 @@ module _ (image : Image) (t : ℕ) (slot : Slot) (m : Manager) where
   sdo_reads None e = tt
   sdo_reads (Some k) e =
       rw (answered_reads t slot.frame.bytes k m image)
-      (answer_reads k (t + m.timeout) (found_is (sdo_answer_id 0) slot.frame.id m.nodes k e)
+      (answer_reads k (found_within (sdo_answer_id 0) slot.frame.id m.nodes k e) (t + m.timeout)
+      (found_is (sdo_answer_id 0) slot.frame.id m.nodes k e)
       (node_at m.nodes k).stage refl)
 
   manager_reads : AreFor R (reads (after_frame t slot.frame m) image)
@@ -162,11 +163,11 @@ module _ (image : Image) (t : ℕ) (slot : Slot) (m : Manager) where
 
 -- ---- events
 
-module _ (image : Image) (t : ℕ) (due : List TimedStep) where
+module _ (image : Image) (t manager : ℕ) (due : List TimedStep) where
   abbrev E : Part → Type 0
-  E part = IsReadByEvents due part
+  E part = IsReadByEvents manager due part
 
-  module _ (step : TimedStep) (node : ℕ) (there : Contains due step) where
+  module _ (step : TimedStep) (node : ℕ) (there : Contains due step) (other : node ≢ manager) where
     power_one : (on : Bool) → step.step ≡ Power node on → (d : Device)
         → AreFor E (reads (after_power_at t node on d) image)
     unfolding after_power_at after_power after_reset_node
@@ -177,8 +178,8 @@ module _ (image : Image) (t : ℕ) (due : List TimedStep) where
         let same = it_is d.number node e in
         picked image E d.has_power _ _ (λ on. tt)
         (λ off. (
-          (node, (inl (ap Defaults same), (step, (there, is)))),
-          ((node, (inr (ap Shape same), (step, (there, is)))), tt),
+          (node, (other, (inl (ap Defaults same), (step, (there, is))))),
+          ((node, (other, (inr (ap Shape same), (step, (there, is))))), tt),
         )))
         (λ e. tt)
 
@@ -189,13 +190,22 @@ module _ (image : Image) (t : ℕ) (due : List TimedStep) where
         rw (reads_each (after_power_at t node on) d ds image)
         (both_for E (reads (after_power_at t node on d) image) _ (power_one on is d) (power_all on is ds))
 
+  -- the manager keeps its number
+  still : (step : Step) (ds : List Device) (m : Manager) → m.number ≡ manager
+      → (outcome (after_event t step (ds, m)) image).1.number ≡ manager
+  still (Set node index sub bytes) ds m e = rw (happens_set t ds m node index sub bytes) e
+  still (Power node on) ds m e =
+      switch_holds t ds m node on image (λ (r : List Device × Manager). r.1.number ≡ manager) e e
+  still (Nmt node command) ds m e = rw (happens_nmt t ds m node command) e
+
   one_event : (step : TimedStep) → Contains due step → (s : Step) → step.step ≡ s → (ds : List Device) (m : Manager)
-      → AreFor E (reads (after_event t s (ds, m)) image)
+      → m.number ≡ manager → AreFor E (reads (after_event t s (ds, m)) image)
   unfolding after_event
-  one_event step there (Set node index sub bytes) is ds m = tt
-  one_event step there (Power node on) is ds m =
-      switch_reads t ds m node on image (λ rs. AreFor E rs) tt (power_all step node there on is ds)
-  one_event step there (Nmt node command) is ds m = tt
+  one_event step there (Set node index sub bytes) is ds m e = tt
+  one_event step there (Power node on) is ds m e =
+      switch_reads t ds m node on image (λ rs. AreFor E rs) tt
+      (λ other. power_all step node there (λ same. it_is_not m.number node other (e ∙ sym same)) on is ds)
+  one_event step there (Nmt node command) is ds m e = tt
 
   first_there : (step : TimedStep) (steps : List TimedStep)
       → ((x : TimedStep) → Contains (step ∷ steps) x → Contains due x) → Contains due step
@@ -207,15 +217,16 @@ module _ (image : Image) (t : ℕ) (due : List TimedStep) where
   later_there step steps h x c = h x (suc c.0, omega (arith, c.1), c.2)
 
   all_events : (steps : List TimedStep) → ((x : TimedStep) → Contains steps x → Contains due x)
-      → (ds : List Device) (m : Manager) → AreFor E (reads (after_events_at t steps (ds, m)) image)
+      → (ds : List Device) (m : Manager) → m.number ≡ manager
+      → AreFor E (reads (after_events_at t steps (ds, m)) image)
   unfolding after_events_at
-  all_events [] h ds m = tt
-  all_events (step ∷ steps) h ds m =
+  all_events [] h ds m e = tt
+  all_events (step ∷ steps) h ds m e =
       let after = outcome (after_event t step.step (ds, m)) image in
       rw (reads_events t step steps (ds, m) image)
       (both_for E (reads (after_event t step.step (ds, m)) image) _
-      (one_event step (first_there step steps h) step.step refl ds m)
-      (all_events steps (later_there step steps h) after.0 after.1))
+      (one_event step (first_there step steps h) step.step refl ds m e)
+      (all_events steps (later_there step steps h) after.0 after.1 (still step.step ds m e)))
 
 -- ---- the delivery
 
@@ -292,8 +303,9 @@ module _ (image : Image) (t : ℕ) (s : Bus) where
       let b = begun t s image in
       let due = steps_due t b.steps in
       rw (reads_events_run t b image)
-      (weaker (IsReadByEvents due) A (λ part h. inr (inl h)) _
-      (all_events image t due due (λ x c. c) b.devices b.manager))
+      (weaker (IsReadByEvents s.manager.number due) A (λ part h. inr (inl h)) _
+      (all_events image t s.manager.number due due (λ x c. c) b.devices b.manager
+      (ap (λ (m : Manager). m.number) (begun_keeps_manager image t s))))
 
   delivery_for : AreFor A (reads (from_delivery_on t (run_by_events t s image)) image)
   delivery_for =

@@ -122,7 +122,7 @@ wins : (ds : List Device) (m : Manager) (c : Contender) → winner ds m ≡ Some
 unfolding winner
 wins ds m c e = rw e at (winner_of-wins (contenders (waiting_lists ds m)))
 
-is_there : {X : Type 0} (xs : List X) (k : ℕ) (x : X) → slice_get xs k ≡ Some x → Contains xs x
+pub is_there : {X : Type 0} (xs : List X) (k : ℕ) (x : X) → slice_get xs k ≡ Some x → Contains xs x
 is_there xs k x e = (k, slice_get_within xs k x e, get_or_from_slice_get xs k x x e)
 
 sent_is : (c : Contender) (o : Option ℕ) (ds : List Device) (m : Manager)

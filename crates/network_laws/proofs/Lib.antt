@@ -32,7 +32,9 @@ pub mod FileLemmas
 pub mod NoteLemmas
 pub mod OwnValueLemmas
 pub mod OwnFilesLemmas
+pub mod AheadLemmas
 pub mod NodeStartLemmas
+pub mod ControllerReads
 pub mod LastLemmas
 pub mod AnswerLemmas
 pub mod RequestLaws

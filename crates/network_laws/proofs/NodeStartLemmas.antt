@@ -1,20 +1,17 @@
--- Which NMT commands an instant queues at the manager, where it starts configured nodes one by one.
-use Rattle.std.proofs.Common.{◌≡◌, ℕ, suc, ◌+◌, ◌<◌, Bool, true, false, List, [], ◌∷◌, ◌++◌, Option, Some, None}
+-- Which NMT commands an instant queues at the manager, where that starts configured nodes one by one.
+use Rattle.std.proofs.Common.{◌≡◌, ℕ, ◌+◌, ◌<◌, Bool, true, false, List, [], ◌∷◌, ◌++◌, Option, Some, None}
 use Rattle.std.proofs.Common.{All, length, map, ◌⊎◌, inl, inr, refl, sym, ap, ◌∙◌, subst, arith}
-use Rattle.std.specs.Prelude.{◌==◌, ◌||◌, Contains, drop, if◌then◌else◌, remove, take}
+use Rattle.std.specs.Prelude.{◌==◌, ◌||◌, Contains, if◌then◌else◌}
 use Rattle.std.proofs.lemmas.List.{get_or-map, get_or-set_same, length-map, length-set}
-use Rattle.std.proofs.lemmas.List.Elements.{All-append, All-cons, All-contains, All-contains_itself, All-drop, All-filter}
-use Rattle.std.proofs.lemmas.List.Elements.{All-head, All-nil, All-tail, All-take, All-weaker, Contains-get_or}
+use Rattle.std.proofs.lemmas.List.Elements.{All-append, All-cons, All-contains, All-contains_itself, All-filter}
+use Rattle.std.proofs.lemmas.List.Elements.{All-head, All-nil, All-tail, All-weaker, Contains-get_or}
 use Rattle.std.proofs.lemmas.List.Quantifiers.{position-Some}
-use Rattle.can_bus.proofs.InstantLemmas.{outcome_delivery, outcome_instant, run_by_events}
+use Rattle.can_bus.proofs.InstantLemmas.{run_by_events}
 use Rattle.can_bus.proofs.ManagerLemmas.{outcome_managed}
-use Rattle.can_bus.proofs.NodeLemmas.{outcome_nodes}
 use Rattle.can_bus.proofs.PowerLemmas.{outcome_power_on_of}
-use Rattle.can_bus.proofs.SpanLemmas.{at_each_moment, bus_next}
-use Rattle.can_bus.specs.Bus.{Bus, after_arbitration, after_delivery, after_nodes, ended_slot, from_delivery_on, instant}
-use Rattle.can_bus.specs.Bus.{manager_after_delivery, manager_after_slot, open_slot, power_on}
+use Rattle.can_bus.proofs.SpanLemmas.{at_each_moment}
+use Rattle.can_bus.specs.Bus.{Bus, ended_slot, instant, manager_after_delivery, manager_after_slot, power_on}
 use Rattle.can_bus.specs.Spans.{bus_at}
-use Rattle.can_bus.specs.declared.line.Line.{Line}
 use Rattle.can_bus.specs.declared.slot.Slot.{Slot}
 use Rattle.can_frame.specs.Frames.{BaseFrame}
 use Rattle.can_frame.specs.Identifiers.{error_control_id, sdo_answer_id}
@@ -24,7 +21,6 @@ use Rattle.can_frame.specs.declared.purpose.Purpose.{Purpose}
 use Rattle.can_frame.specs.declared.purpose.Purpose.TheVariants.{Nmt, Sdo}
 use Rattle.can_frame.specs.declared.unwanted.Unwanted.TheVariants.{SdoOf}
 use Rattle.can_frame.specs.declared.waiting.Waiting.{Waiting}
-use Rattle.co_device.specs.Device.{after_instant}
 use Rattle.co_scenario.specs.declared.nmt_command.NmtCommand.TheVariants.{Start}
 use Rattle.image_parts.specs.Asking.{Answer, outcome}
 use Rattle.image_parts.specs.Contents.{Image, roster_of}
@@ -34,10 +30,11 @@ use Rattle.image_parts.specs.declared.start_mode.StartMode.TheVariants.{Configur
 use Rattle.manager_nodes.specs.Table.{has_booted, is_from, is_own, no_node, node_after, node_at, place_of}
 use Rattle.manager_nodes.specs.Table.{queue_after_time_out, queue_after_time_outs, sdo_frames, timed_out, with_stage}
 use Rattle.manager_nodes.specs.declared.booting.Booting.{Booting}
+use Rattle.network_laws.proofs.AheadLemmas.{nodes_stay}
 use Rattle.network_laws.proofs.NoteLemmas.{answer_tells, boot_tells}
-use Rattle.network_laws.proofs.ThroughLemmas.{hears_keeps, manager_through, run_manager, slot_manager}
+use Rattle.network_laws.proofs.ThroughLemmas.{hears_keeps, manager_through, run_manager}
 use Rattle.network_laws.specs.Reads.{at_delivery}
-use Rattle.network_laws.specs.Starts.{StartsConfigured}
+use Rattle.network_laws.specs.Starts.{StartsConfigured, at_arbitration}
 use Rattle.nmt_boot.proofs.FrameLemmas.{received_holds}
 use Rattle.nmt_boot.proofs.PeriodicLemmas.{queue_has}
 use Rattle.nmt_boot.specs.Manager.{Manager, after_frame, after_step, manager_at_power_on, time_outs, timers}
@@ -203,10 +200,6 @@ module _ (old : List Waiting) (nodes : List Booting) where
       by rest true = All-cons Fits (waiting purpose frame) ws (λ p. absurd (other p)) (All-tail Fits w ws h)
       by rest false = All-cons Fits w (with_latest purpose frame ws) (All-head Fits w ws h) rest
 
-  removed_fit : (ws : List Waiting) (place : ℕ) → AllFit ws → AllFit (remove ws place)
-  removed_fit ws place h =
-      more_fit (take place ws) (drop (suc place) ws) (All-take Fits place ws h) (All-drop Fits (suc place) ws h)
-
 -- ---- the manager
 
 abbrev ManagerFits : List Waiting → Manager → Type 0
@@ -335,14 +328,11 @@ mode_at : (image : Image) → (roster_of (image Roster)).start_mode ≡ Configur
     → StartsOneByOne (bus_at image t).manager
 mode_at image e t = at_each_moment image (λ u s. StartsOneByOne s.manager) (first_mode image e) (next_mode image) t
 
--- ---- an instant
+-- ---- an instant, up to its arbitration
 
 module _ (image : Image) (t : ℕ) (s : Bus) (mode : StartsOneByOne s.manager) where
   abbrev Anything : Manager → Type 0
   Anything m = Unit {0}
-
-  abbrev Never : Manager → Type 0
-  Never m = ⊥
 
   abbrev ran : Bus
   ran = run_by_events t s image
@@ -365,44 +355,15 @@ module _ (image : Image) (t : ℕ) (s : Bus) (mode : StartsOneByOne s.manager) w
       (timed old t (outcome (manager_after_slot t slot ran.manager) image).0
       (heard ran.manager ran_mode image t slot))
 
-  abbrev nodes_run : Bus
-  nodes_run = record {
-    spent = ran.spent;
-    bit_time = ran.bit_time;
-    slots = ran.slots;
-    devices = map (after_instant t) (outcome (after_delivery t slot ran.devices) image);
-    manager = (outcome (manager_after_delivery t slot ran.manager) image).0;
-    wire = open_slot t ran.wire;
-    window = ran.window;
-    steps = ran.steps;
-  }
-
-  arbitrated : ManagerFits old (after_arbitration t nodes_run).manager
-  arbitrated =
-      slot_manager image t s Never (ManagerFits old) (ManagerFits old) (λ c node m k. k) (λ m k. absurd k)
-      (λ m k. timed old t m k) (λ m place k. removed_fit old m.nodes m.waiting place k) nodes_run managed
-
-  delivered : outcome (from_delivery_on t ran) image ≡ after_nodes t ran (
-    map (after_instant t) (outcome (after_delivery t slot ran.devices) image),
-    outcome (manager_after_delivery t slot ran.manager) image,
-  )
-  delivered = outcome_delivery t ran image ∙ ap (after_nodes t ran) (outcome_nodes t slot ran.manager ran.devices image)
-
-  instant_fits : ManagerFits (at_delivery image t s).manager.waiting (outcome (instant t s) image).0.manager
-  instant_fits =
-      subst (λ (q : Bus × List Line). ManagerFits old q.0.manager) (sym (outcome_instant t s image ∙ delivered))
-      arbitrated
-
 -- ---- the run
 
 pub started_when_configured : (image : Image) → (roster_of (image Roster)).start_mode ≡ ConfiguredNodes → (t : ℕ)
-    (w : Waiting) → Contains (bus_at image (t + 1)).manager.waiting w → w.purpose ≡ Nmt
+    (w : Waiting) → Contains (at_arbitration image t (bus_at image t)).manager.waiting w → w.purpose ≡ Nmt
     → Contains (at_delivery image t (bus_at image t)).manager.waiting w
     ⊎ StartsConfigured (bus_at image (t + 1)).manager.nodes w
 started_when_configured image mode t w listed is_command =
     let old : List Waiting = (at_delivery image t (bus_at image t)).manager.waiting in
-    let after : Manager = (bus_at image (t + 1)).manager in
-    let fit : ManagerFits old after =
-    subst (λ (s : Bus). ManagerFits old s.manager) (sym (bus_next image t))
-    (instant_fits image t (bus_at image t) (mode_at image mode t)) in
-    All-contains (Fits old after.nodes) after.waiting w fit listed is_command
+    let ahead : Manager = (at_arbitration image t (bus_at image t)).manager in
+    let fit : ManagerFits old ahead = managed image t (bus_at image t) (mode_at image mode t) in
+    subst (λ (nodes : List Booting). Contains old w ⊎ StartsConfigured nodes w) (sym (nodes_stay image t))
+    (All-contains (Fits old ahead.nodes) ahead.waiting w fit listed is_command)

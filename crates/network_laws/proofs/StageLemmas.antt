@@ -92,9 +92,9 @@ module _ (image : Image) (node : ℕ) (heard : Option Slot) (j : ℕ) (transfer 
 
 -- ---- the table of nodes
 
--- the node that is found has the identifier
+-- the node that is found is one, and has the identifier
 module _ (base id : ℕ) (nodes : List Booting) (k : ℕ) (e : place_of base id nodes ≡ Some k) where
-  found_within : k < length nodes
+  pub found_within : k < length nodes
   unfolding place_of
   found_within = (position-Some (is_from base id) nodes k no_node e).0
 

@@ -1,5 +1,5 @@
 -- An event of the power: the devices of its number are switched, or nothing is, where the manager runs in them.
-use Rattle.std.proofs.Common.{ℕ, Bool, true, false, List, [], ◌∙◌, subst, sym}
+use Rattle.std.proofs.Common.{◌≡◌, ℕ, Bool, true, false, List, [], ◌∙◌, refl, subst, sym}
 use Rattle.std.specs.Prelude.{◌==◌, if◌then◌else◌}
 use Rattle.std.proofs.lemmas.List.{append-nil}
 use Rattle.image_parts.proofs.QuestionLemmas.{outcome_bind, reads_bind}
@@ -25,14 +25,16 @@ module _ (t : ℕ) (ds : List Device) (m : Manager) (node : ℕ) (on : Bool) (im
       by false =
           subst P (sym (outcome_bind (each (after_power_at t node on) ds) (λ after. Answer (after, m)) image)) goes
 
-  pub switch_reads : (P : List (Part × Content) → Type 0) → P [] → P (reads (each (after_power_at t node on) ds) image)
+  pub switch_reads : (P : List (Part × Content) → Type 0) → P []
+      → ((m.number == node) ≡ false → P (reads (each (after_power_at t node on) ds) image))
       → P (reads (after_event t (Power node on) (ds, m)) image)
   unfolding after_event
-  switch_reads P none some = by (m.number == node)
+  switch_reads P none some = by (m.number == node) refl
     where
-      by : (b : Bool) → P (reads {A = List Device × Manager} (if b then Answer (ds, m)
+      by : (b : Bool) → (m.number == node) ≡ b
+          → P (reads {A = List Device × Manager} (if b then Answer (ds, m)
           else bind (each (after_power_at t node on) ds) (λ after. Answer (after, m))) image)
-      by true = none
-      by false =
+      by true e = none
+      by false e =
           subst P (sym (reads_bind (each (after_power_at t node on) ds) (λ after. Answer (after, m)) image
-          ∙ append-nil _)) some
+          ∙ append-nil _)) (some e)

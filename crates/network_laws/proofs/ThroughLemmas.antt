@@ -26,6 +26,7 @@ use Rattle.can_bus.proofs.TimeLemmas.{goes_on, starts}
 use Rattle.can_bus.proofs.WindowLemmas.{outcome_events_run}
 use Rattle.can_frame.specs.Senders.{manager_sender}
 use Rattle.network_laws.proofs.SwitchLemmas.{switch_holds}
+use Rattle.network_laws.specs.Starts.{at_arbitration}
 
 -- ---- events and the frame that ends
 
@@ -36,7 +37,7 @@ begun_keeps_wire image t s = by (t == s.window) refl
     by true e = rw (starts image t s e) refl
     by false e = rw (goes_on image t s e) refl
 
-begun_keeps_manager : (image : Image) (t : ℕ) (s : Bus) → (outcome (after_window_start t s) image).manager ≡ s.manager
+pub begun_keeps_manager : (image : Image) (t : ℕ) (s : Bus) → (outcome (after_window_start t s) image).manager ≡ s.manager
 begun_keeps_manager image t s = by (t == s.window) refl
   where
     by : (b : Bool) → (t == s.window) ≡ b → (outcome (after_window_start t s) image).manager ≡ s.manager
@@ -86,7 +87,7 @@ module _ (image : Image) (t : ℕ) (s : Bus) (Before Heard After : Manager → T
   start_manager None b h = started_manager (winner b.devices b.manager) b h
   start_manager (Some slot) b h = h
 
-  pub slot_manager : (b : Bus) → After b.manager → After (after_arbitration t b).manager
+  slot_manager : (b : Bus) → After b.manager → After (after_arbitration t b).manager
   unfolding after_arbitration
   slot_manager b h = start_manager b.wire b h
 
@@ -94,6 +95,13 @@ module _ (image : Image) (t : ℕ) (s : Bus) (Before Heard After : Manager → T
       → After (outcome (manager_after_delivery t (ended_slot t s.wire) m) image).0
   managed_manager m h = rw (outcome_managed t (ended_slot t s.wire) m image)
       (timed (outcome (manager_after_slot t (ended_slot t s.wire) m) image).0 (hears m h))
+
+  -- ahead of the arbitration
+  pub manager_ahead : Before s.manager → After (at_arbitration image t s).manager
+  manager_ahead h =
+      let ran : Bus = run_by_events t s image in
+      subst (λ (wire : Option Slot). After (outcome (manager_after_delivery t (ended_slot t wire) ran.manager) image).0)
+      (sym (events_keep_wire image t s)) (managed_manager ran.manager (run_manager h))
 
   delivery_manager : (b : Bus) → b.wire ≡ s.wire → Before b.manager
       → After (outcome (from_delivery_on t b) image).0.manager

@@ -25,7 +25,7 @@ use Rattle.sdo_client.specs.declared.progress.Progress.TheVariants as progress
 use Rattle.sdo_client.specs.declared.client_transfer.ClientTransfer.{ClientTransfer as Transfer}
 use Rattle.device_pdos.specs.Rpdos.{receipt_of, rpdo_at}
 use Rattle.nmt_boot.specs.Manager.{Manager}
-use Rattle.manager_nodes.specs.Table.{node_at}
+use Rattle.manager_nodes.specs.Table.{is_own}
 use Rattle.manager_nodes.specs.declared.booting.Booting.{Booting}
 use Rattle.node_boot.specs.Boot.{is_as_expected, next_compared}
 use Rattle.node_boot.specs.declared.boot_stage.BootStage.{BootStage}
@@ -74,7 +74,7 @@ pub record AppliesAtOnce (frame : BaseFrame) (d : Device) : Type 0 where
 abbrev pub UsesEntries : BaseFrame → Device → Type 0
 UsesEntries frame d = TakesRequest frame d ⊎ (AppliesAtSync frame d ⊎ AppliesAtOnce frame d)
 
--- WHAT A DEVICE READS OF A FRAME: its values by the EDS and its entries at a reset, and its entries where it uses
+-- WHAT A DEVICE READS OF A FRAME: at a reset the values that it takes then and its entries, and its entries where it uses
 -- them
 abbrev pub IsReadByDevice : BaseFrame → Device → Part → Type 0
 IsReadByDevice frame d part =
@@ -102,27 +102,36 @@ AsksForWrite node slot Configured j = ⊥
 AsksForWrite node slot Failed j = ⊥
 AsksForWrite node slot Own j = ⊥
 
--- or the first at once, by a boot-up message of a node of which no number is expected
+-- the frame is a boot-up message that begins the boot of the node: that of the node in which the manager runs begins
+-- none
+abbrev pub BeginsBoot : Slot → Booting → Type 0
+BeginsBoot slot booting = (is_own booting.stage ≡ false) × IsBootUpOf booting.number (Some slot)
+
+-- or the first at once, where a boot begins of a node of which no number is expected
 abbrev pub AsksForWriteNow : Image → Slot → Booting → ℕ → Type 0
 AsksForWriteNow image slot booting j =
     AsksForWrite booting.number slot booting.stage j
     ⊎ ((j ≡ 0)
-    × (IsBootUpOf booting.number (Some slot)
-    × (next_compared (identity_of (image (Expect booting.number))) 0 ≡ None)))
+    × (BeginsBoot slot booting × (next_compared (identity_of (image (Expect booting.number))) 0 ≡ None)))
 
--- WHAT THE MANAGER READS OF A FRAME: what it expects of a node at the node's boot-up, and a write before it is sent
+-- of a node: what is expected of it where its boot begins, and a write before it is sent
+abbrev pub IsReadToBoot : Image → Slot → Booting → Part → Type 0
+IsReadToBoot image slot booting part =
+    ((part ≡ Expect booting.number) × BeginsBoot slot booting)
+    ⊎ ((j : ℕ) × ((part ≡ Boot booting.number j) × AsksForWriteNow image slot booting j))
+
+-- WHAT THE MANAGER READS OF A FRAME: what it needs to boot one of its nodes
 abbrev pub IsReadByManager : Image → Slot → Manager → Part → Type 0
-IsReadByManager image slot m part =
-    ((node : ℕ) × ((part ≡ Expect node) × IsBootUpOf node (Some slot)))
-    ⊎ ((i : ℕ) × ((j : ℕ)
-    × ((part ≡ Boot (node_at m.nodes i).number j) × AsksForWriteNow image slot (node_at m.nodes i) j)))
+IsReadByManager image slot m part = (booting : Booting)
+    × (Contains m.nodes booting × IsReadToBoot image slot booting part)
 
 -- ---- an instant
 
--- an event of these switches a node on, whose part it is
-abbrev pub IsReadByEvents : List TimedStep → Part → Type 0
-IsReadByEvents due part = (node : ℕ)
-    × (IsOwnPart node part × ((step : TimedStep) × (Contains due step × (step.step ≡ Power node true))))
+-- an event of these switches a node on whose part it is, and whose number isn't the manager's
+abbrev pub IsReadByEvents : ℕ → List TimedStep → Part → Type 0
+IsReadByEvents manager due part = (node : ℕ)
+    × ((node ≢ manager)
+    × (IsOwnPart node part × ((step : TimedStep) × (Contains due step × (step.step ≡ Power node true)))))
 
 -- a device with power, or the manager, reads it of the frame; not the one that sends it
 abbrev pub IsReadAtDelivery : Image → Slot → Bus → Part → Type 0
@@ -140,5 +149,9 @@ at_delivery image t s = outcome (after_events t (outcome (after_window_start t s
 abbrev pub IsReadAt : Image → ℕ → Bus → Part → Type 0
 IsReadAt image t s part =
     ((t ≡ s.window) × (part ≡ Events (t / 10000)))
-    ⊎ (IsReadByEvents (steps_due t (outcome (after_window_start t s) image).steps) part
+    ⊎ (IsReadByEvents s.manager.number (steps_due t (outcome (after_window_start t s) image).steps) part
     ⊎ ((slot : Slot) × ((ended_slot t s.wire ≡ Some slot) × IsReadAtDelivery image slot (at_delivery image t s) part)))
+
+-- it is no part by which this node is booted: neither what is expected of it nor a write of it
+abbrev pub IsNoPartOfBoot : ℕ → Part → Type 0
+IsNoPartOfBoot node part = (part ≢ Expect node) × ((j : ℕ) → part ≢ Boot node j)

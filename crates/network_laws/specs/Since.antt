@@ -1,4 +1,5 @@
--- Marks of a device since it last took its defaults: what an event or an RPDO wrote since then.
+-- Marks of entries since each last took its default, at the last reset of its node or, in 1000h to 1FFFh, of its
+-- communication: what an event or an RPDO wrote since then.
 use Rattle.std.specs.Prelude.{ℕ, zero, suc, ◌==◌, ◌&&◌, Bool, true, false, Option, Some, slice_index_or}
 use Rattle.std.specs.Prelude.{if◌then◌else◌}
 use Rattle.std.specs.Option.{option_map_or}
@@ -32,7 +33,7 @@ abbrev pub is_restored_at : ℕ → Bus → ℕ → ℕ × ℕ → Bool
 is_restored_at t s node place =
     option_map_or (λ (slot : Slot). restores node place slot.frame) (ended_slot t s.wire) false
 
--- THE MARKS SINCE THE DEFAULTS WERE TAKEN, just before the moment t: an entry that takes its default again has none
+-- THE MARKS SINCE EACH ENTRY LAST TOOK ITS DEFAULT, just before the moment t: one that takes it again has none
 unfoldable pub marks_since : Image → ℕ → MarkedEntries
 marks_since image zero = no_marks
 marks_since image (suc t) = λ node place. if is_restored_at t (bus_at image t) node place then false

@@ -77,7 +77,7 @@ pub fn what_comes_is_due_later()
         → IsAhead u (after_set t place bytes d) }
 {}
 
-/// A device reads its own values by the EDS and its own entries alone.
+/// A device reads the values that it takes at power-on and reset, and its entries: its own alone.
 #[tactic(auto, using(crate::proofs::PartLemmas::frame_reads, crate::proofs::PartLemmas::power_reads))]
 pub fn a_device_reads_its_own_parts()
     ensures frame { (image : Image) (t : ℕ) (frame : BaseFrame) (d : Device)
@@ -190,8 +190,8 @@ pub fn a_request_reads_the_entries_once()
         → reads (after_sdo_request t request d) image ≡ (Part.Shape d.number, image (Part.Shape d.number)) ∷ [] }
 {}
 
-/// Reset node gives every entry its value by the EDS. Reset communication does so for 1000h to 1FFFh,
-/// and leaves all others.
+/// Reset node gives every entry the value that the node takes at power-on and reset. Reset communication does so for
+/// 1000h to 1FFFh, and leaves all others.
 #[tactic(auto, using(crate::proofs::ResetLemmas::node_values, crate::proofs::ResetLemmas::communication_values))]
 pub fn a_reset_restores_its_entries()
     ensures node { (image : Image) (t : ℕ) (d : Device)

@@ -94,7 +94,8 @@ pub fn a_node_that_is_noted_configured_holds_its_files()
 /// THE CONTROLLER HOLDS ITS FILES BY ITSELF. Under every image by which the device that the manager runs in holds its
 /// writes, and at every moment of its run: that device has power, and holds at every entry that its writes name, but
 /// for its producer heartbeat time, the data of the last write there. Excepted are the error register, and the entries
-/// that an event or an RPDO wrote since the device last took its defaults.
+/// that an event or an RPDO wrote since the entry last took its default: at the last reset of the node or, in 1000h to
+/// 1FFFh, of its communication.
 pub fn the_controller_holds_its_files_by_itself()
     ensures { (image : Image) → IsImage image → HoldsItsWrites image (roster_of (image Part.Roster)).manager
         → (t : ℕ) (d : Device) → Contains (bus_at image t).devices d

@@ -2,12 +2,14 @@
 
 ghost use Rattle.std.specs.Prelude.{◌≡◌, ◌≢◌, ◌+◌, ◌∷◌, [], ℕ, All, List, Some, None, true, false};
 ghost use Rattle.image_parts.specs.Asking.{reads};
-ghost use Rattle.network_laws.specs.Reads.{IsReadAt};
+ghost use Rattle.network_laws.specs.Reads.{IsNoPartOfBoot, IsReadAt};
 ghost use Rattle.can_bus.specs.Bus.{instant, Bus};
+ghost use Rattle.can_bus.specs.Spans.{bus_at};
 ghost use Rattle.can_frame.specs.Frames.{BaseFrame};
 ghost use Rattle.co_device.specs.Device.{after_power, reset_communication, after_reset_node, Device};
 ghost use Rattle.co_device.specs.Receiving.{after_sync_at};
-ghost use Rattle.image_parts.specs.Contents.{identity_of, Image};
+ghost use Rattle.image_parts.specs.Contents.{identity_of, roster_of, Image};
+ghost use Rattle.image_parts.specs.Images.{IsImage};
 ghost use Rattle.image_parts.specs.declared.identity.Identity.{Identity};
 ghost use Rattle.image_parts.specs.declared.part.Part.TheVariants as part;
 ghost use Rattle.sdo_client.specs.Client.{after_answer};
@@ -18,16 +20,24 @@ ghost use Rattle.node_boot.specs.Boot.{boot_nmt_slave, is_as_expected, next_comp
 ghost use Rattle.node_boot.specs.declared.boot_stage.BootStage.TheVariants as stage;
 
 /// An instant reads nothing but what the table of parts says: the events of a window that starts; the values and
-/// the entries of a node that an event switches on; and of the frame that is delivered, those of a device that it
-/// resets, the entries of one that takes it as a request or applies an RPDO's frame, what the manager expects of a
-/// node that boots, and the write that it asks for next.
+/// the entries of a node other than the manager's own that an event switches on; and of the frame that is delivered,
+/// those of a device that it resets, the entries of one that takes it as a request or applies an RPDO's frame, what the
+/// manager expects of a node whose boot it begins, and the write that it asks for next.
 #[tactic(auto, using(crate::proofs::AskLemmas::instant_reads))]
 pub fn an_instant_reads_nothing_else()
     ensures { (image : Image) (t : ℕ) (s : Bus) → All (λ r. IsReadAt image t s r.0) (reads (instant t s) image) }
 {}
 
-/// A reset and a power-on read the device's values by its EDS and its entries; where power stays as it was, or goes,
-/// nothing is read.
+/// Nothing is read to boot the node that the manager runs in: in no instant of a run what is expected of it, or a write
+/// of it.
+pub fn nothing_is_read_to_boot_the_controller()
+    ensures { (image : Image) → IsImage image → (t : ℕ)
+        → All (λ r. IsNoPartOfBoot (roster_of (image part.Roster)).manager r.0)
+        (reads (instant t (bus_at image t)) image) }
+{}
+
+/// A reset and a power-on read the values that the device takes then, and its entries; where power stays as it was, or
+/// goes, nothing is read.
 #[tactic(auto, using(crate::proofs::RowLemmas::node_reads, crate::proofs::RowLemmas::communication_reads, crate::proofs::RowLemmas::switched_reads, crate::proofs::RowLemmas::on_reads, crate::proofs::RowLemmas::off_reads))]
 pub fn a_reset_reads_values_and_entries()
     ensures node { (image : Image) (t : ℕ) (d : Device) → reads (after_reset_node t d) image

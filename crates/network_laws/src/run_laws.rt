@@ -5,12 +5,12 @@ ghost use Rattle.image_parts.specs.Agenda.{IsSameUnder};
 ghost use Rattle.image_parts.specs.Asking.{outcome, turns};
 ghost use Rattle.network_laws.specs.Boots.{FollowsWrite, IsBootUpOf};
 ghost use Rattle.can_bus.specs.Spans.{bus_at, span};
-ghost use Rattle.network_laws.specs.Starts.{but_for_frames, LeavesItsList, StartsConfigured};
+ghost use Rattle.network_laws.specs.Starts.{at_arbitration, but_for_frames, LeavesItsList, StartsConfigured};
 ghost use Rattle.network_laws.specs.Reads.{at_delivery};
 ghost use Rattle.can_bus.specs.Bus.{ended_slot, instant, waiting_lists, power_on, after_arbitration, Bus};
 ghost use Rattle.can_bus.specs.Runs.{run, StartsWith};
 ghost use Rattle.can_bus.specs.declared.slot.Slot.{Slot as Sent};
-ghost use Rattle.can_frame.specs.Identifiers.{time_id};
+ghost use Rattle.can_frame.specs.Identifiers.{nmt_id, time_id};
 ghost use Rattle.can_frame.specs.declared.contender.Contender.{Contender as Bid};
 ghost use Rattle.can_frame.specs.declared.purpose.Purpose.TheVariants.{Nmt};
 ghost use Rattle.can_frame.specs.declared.waiting.Waiting.{Waiting as Queued};
@@ -119,12 +119,22 @@ pub fn a_boot_goes_on_write_by_write()
         ⊎ IsBootUpOf (node_at s.manager.nodes i).number (ended_slot t s.wire) }
 {}
 
-/// Where the manager starts configured nodes one by one, no node is started before it is configured: each NMT command
-/// that waits at the manager behind an instant waited there before the frame of that instant was delivered, as what
-/// events command does, or it is the start of a node that is configured then, or of the one that the manager runs in.
+/// Where the manager starts configured nodes one by one, no node is started before it is configured. Ahead of the
+/// arbitration that ends an instant, each NMT command that waits at the manager waited there before the frame of the
+/// instant was delivered, as what events command does, or it is the start of a node that is configured then, or of the
+/// one that the manager runs in. And each NMT command that goes on the wire in the instant is one of those that wait
+/// there.
 pub fn no_node_is_started_before_it_is_configured()
-    ensures { (image : Image) → (roster_of (image part.Roster)).start_mode ≡ ConfiguredNodes → (t : ℕ) (w : Queued)
-        → Contains (bus_at image (t + 1)).manager.waiting w → w.purpose ≡ Nmt
+    ensures waits { (image : Image) → (roster_of (image part.Roster)).start_mode ≡ ConfiguredNodes
+        → (t : ℕ) (w : Queued) → Contains (at_arbitration image t (bus_at image t)).manager.waiting w
+        → w.purpose ≡ Nmt
         → Contains (at_delivery image t (bus_at image t)).manager.waiting w
         ⊎ StartsConfigured (bus_at image (t + 1)).manager.nodes w }
+    ensures starts { (image : Image) → IsImage image → (t : ℕ) (slot : Sent)
+        → (at_arbitration image t (bus_at image t)).wire ≡ None → (bus_at image (t + 1)).wire ≡ Some slot
+        → slot.frame.id ≡ nmt_id
+        → (w : Queued) × (Contains (at_arbitration image t (bus_at image t)).manager.waiting w
+        × ((w.purpose ≡ Nmt) × (w.frame ≡ slot.frame))) }
+    ensures ends { (image : Image) (t : ℕ)
+        → bus_at image (t + 1) ≡ after_arbitration t (at_arbitration image t (bus_at image t)) }
 {}
