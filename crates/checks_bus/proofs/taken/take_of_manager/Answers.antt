@@ -1,4 +1,5 @@
 use Rattle.std.proofs.Common.{arith, length, ◌<◌, ◌≡◌, Some}
+use Rattle.can_frame.specs.Senders.{manager_sender}
 use Rattle.can_frame.specs.Winner.{contenders_of, IsWinner}
 use Rattle.checks_bus.proofs.TakenLemmas.{place_within}
 use Rattle.checks_bus.proofs.taken.take_of_manager.Goals as goal
@@ -8,8 +9,8 @@ pub send-requires : goal.send-requires
 send-requires c =
     let contender = c.in_ok-contender.contender in
     let is : c.contender.result ≡ Some contender = c.in_ok-contender.was in
-    let wins : IsWinner (contenders_of (c.args.manager.now.number, c.args.manager.now.waiting))
+    let wins : IsWinner (contenders_of (manager_sender c.args.manager.now.number, c.args.manager.now.waiting))
     (Some contender) = rw is at c.contender.ensures in
     let within : contender.place < length c.args.manager.now.waiting =
-    place_within c.args.manager.now.number c.args.manager.now.waiting contender wins in
+    place_within (manager_sender c.args.manager.now.number) c.args.manager.now.waiting contender wins in
     elim c.if-wins.branch [ then-wins w ↦ rw w.place-is within | else-wins w ↦ rw w.place-is (omega (arith, within)) ]
