@@ -1,2 +1,1 @@
-"""The rules of docs/rules as plain functions: a module for each page, and the same names as the definitions in
-crates/*/specs."""
+"""The rules of docs/rules: a module for each page, and the same names as the definitions in crates/*/specs."""

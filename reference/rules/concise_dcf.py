@@ -1,26 +1,14 @@
 """The concise DCF: docs/rules/concise_dcf.md."""
 import struct
-from dataclasses import dataclass
+from typing import NamedTuple
+from .write_check import Place
 
-
-@dataclass(frozen=True)
-class Write:
-    """The data that an entry gets."""
-    index: int
-    sub: int
+class Write(NamedTuple):
+    """The data that an entry gets. A dict of some has the last data of each entry."""
+    place: Place
     data: bytes
-
-    @property
-    def place(self):
-        return self.index, self.sub
-
-
-def data_of(writes):
-    """The last data of each entry that is written."""
-    return {write.place: write.data for write in writes}
-
 
 def text_of(writes):
     """How many they are, and of each its index, its sub-index, its length and its data."""
     return struct.pack("<I", len(writes)) + b"".join(
-        struct.pack("<HBI", write.index, write.sub, len(write.data)) + write.data for write in writes)
+        struct.pack("<HBI", *place, len(data)) + data for place, data in writes)

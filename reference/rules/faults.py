@@ -1,17 +1,11 @@
 """Refusals, by number and name: docs/rules/commands.md, Faults."""
 
-SYNTAX, RANGE, UNKNOWN, TAKEN, IN_USE, LIMIT, BAD_BYTE, TRUNCATED = range(2, 10)
-NAMES = dict(enumerate((b"Syntax", b"Range", b"Unknown", b"Taken", b"InUse", b"Limit", b"BadByte", b"Truncated"), 2))
-
+SYNTAX, RANGE, UNKNOWN, TAKEN = b"2 Syntax", b"3 Range", b"4 Unknown", b"5 Taken"
+IN_USE, LIMIT, BAD_BYTE, TRUNCATED = b"6 InUse", b"7 Limit", b"8 BadByte", b"9 Truncated"
 
 class Refused(Exception):
     """Why a command isn't accepted."""
 
-    def __init__(self, number: int):
-        super().__init__(number)
-        self.number = number
-
-
-def refuse_unless(condition, number):
+def refuse_unless(condition, why):
     if not condition:
-        raise Refused(number)
+        raise Refused(why)

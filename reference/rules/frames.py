@@ -1,68 +1,54 @@
 """Frames, how long one takes the bus, the frames that wait, and which of them starts: docs/rules/frames.md.
 
 In version 3 the stuff bits of ISO 11898-1 are counted too: along SOF, identifier, RTR, IDE, r0, DLC, data and CRC."""
-from dataclasses import dataclass
+import struct
+from typing import NamedTuple
 
 NMT, SYNC, EMERGENCY, TIME = 0x000, 0x080, 0x080, 0x100
 SDO_ANSWER, SDO_REQUEST, ERROR_CONTROL = 0x580, 0x600, 0x700
 DAY_MS = 86_400_000
 
-
-@dataclass(frozen=True)
-class Frame:
+class Frame(NamedTuple):
     id: int
     data: bytes
-
 
 def boot_up_message(node):
     return Frame(ERROR_CONTROL + node, b"\x00")
 
-
 def is_error_control(frame):
     return ERROR_CONTROL < frame.id <= ERROR_CONTROL + 127 and len(frame.data) == 1
-
 
 def is_boot_up(frame):
     return is_error_control(frame) and frame.data == b"\x00"
 
-
 def nmt_message(service, node):
     return Frame(NMT, bytes([service, node]))
 
-
 def time_message(now, first_day):
-    """The milliseconds after midnight in 28 bits of four bytes, and the days since 1984-01-01; the run begins at
-    midnight."""
+    """The milliseconds after midnight, and the days since 1984-01-01; the run begins at midnight."""
     days, milliseconds = divmod(now // 1000, DAY_MS)
-    return Frame(TIME, milliseconds.to_bytes(4, "little") + ((first_day + days) % 2**16).to_bytes(2, "little"))
-
+    return Frame(TIME, struct.pack("<IH", milliseconds, (first_day + days) % 2**16))
 
 # --------------------------------------------------------------------- slots
-
 def slot_bits(frame):
     """Without stuff bits, as versions 1 and 2 count."""
     return 47 + 8 * len(frame.data)
-
 
 def exact_bits(frame):
     """With stuff bits, as version 3 counts."""
     return slot_bits(frame) + stuff_bits(with_crc(bits_before_crc(frame)))
 
-
 def slot_time(frame, bit_rate, version):
     """In microseconds; the bit rate is in kbit/s."""
     return (exact_bits(frame) if version >= 3 else slot_bits(frame)) * 1000 // bit_rate
-
 
 def bits_of(number, count):
     """The highest first."""
     return [number >> place & 1 for place in range(count - 1, -1, -1)]
 
-
 def bits_before_crc(frame):
     data = [bit for byte in frame.data for bit in bits_of(byte, 8)]
     return [0] + bits_of(frame.id, 11) + [0, 0, 0] + bits_of(len(frame.data), 4) + data
-
 
 def with_crc(bits):
     register = 0
@@ -70,7 +56,6 @@ def with_crc(bits):
         is_inverted = bit ^ register >> 14
         register = register << 1 & 0x7FFF ^ 0x4599 * is_inverted
     return bits + bits_of(register, 15)
-
 
 def stuff_bits(bits):
     """Behind five equal bits one of the other value is put in, the first of the next row: how many these are."""
@@ -82,17 +67,12 @@ def stuff_bits(bits):
             count, value, row = count + 1, 1 - bit, 1
     return count
 
-
 def frame_line(time, frame):
     return b"%010d %03X [%d]" % (time, frame.id, len(frame.data)) + b"".join(b" %02X" % byte for byte in frame.data)
 
-
 # ------------------------------------------------------------ waiting frames
-
 class WaitingFrames:
-    """The frames that wait at one node, in order, each with its purpose: a word, and of a TPDO its object, of SDO the
-    node."""
-
+    """The frames that wait at one node, in order, each behind its purpose: a word, and the object or node if any."""
     def __init__(self):
         self.frames = []
 
@@ -110,13 +90,9 @@ class WaitingFrames:
         self.frames = [(purpose, frame) for purpose, frame in self.frames
                        if purpose not in purposes and purpose[0] not in purposes]
 
-    def take(self, place):
-        return self.frames.pop(place)[1]
-
-
 def winner(lists):
-    """The sender and the place of the frame that starts: the least by identifier, then by sender, then by place in the
-    list of the sender. A sender is a pair: its number, and whether it is the manager. None where no frame waits."""
+    """The sender, a number and whether it is the manager's, and the place in its list of the frame that starts: the
+    least by identifier, then by sender, then by place. None where no frame waits."""
     least = min(((frame.id, sender, place) for sender, waiting in lists.items()
                  for place, (_, frame) in enumerate(waiting.frames)), default=None)
     return None if least is None else least[1:]

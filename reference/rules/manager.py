@@ -1,12 +1,9 @@
 """The manager: the boot of each node, the start of the network, and what it sends by itself: docs/rules/manager.md.
 
-In version 3 the manager starts no node that it hasn't configured: where version 2 starts all nodes at once, each node
-that is configured is started by itself, by number. A node with the manager's number is the controller, the device that
-the manager runs in: it isn't booted, sends the boot-up message in the manager's place, and is started with the network,
-and from then on at each of its boot-ups."""
-from dataclasses import dataclass, replace
-from typing import Optional, Tuple
-
+In version 3 nodes are started one by one, and none that isn't configured, where version 2 starts all at once. A node
+with the manager's number is the controller, the device that the manager runs in: it isn't booted, sends the boot-up
+message in the manager's place, and is started with the network, and from then on at each of its boot-ups."""
+from typing import NamedTuple, Optional, Tuple
 from . import sdo
 from .devices import START
 from .entries import IDENTITY
@@ -16,38 +13,31 @@ from .write_check import Place
 
 NOT_BOOTED, CONFIGURED, FAILED = "not booted", "configured", "failed"
 
-
-@dataclass(frozen=True)
-class Boot:
-    """An open boot. expected: the entries that are still to be compared, each with its number. number: that of the
-    write, once there are none."""
+class Boot(NamedTuple):
+    """An open boot: the entries that are still to be compared, each with its number; then the number of the write."""
     expected: Tuple[Tuple[Place, int], ...]
     number: int = 0
     transfer: Optional[sdo.Transfer] = None
     deadline: Optional[int] = None
 
-
 class Manager:
-    """image has what is expected of each node, and its writes. asks(part, ..) is called where one of these is read."""
-
-    def __init__(self, image, asks):
-        self.roster, self.image, self.asks = image.roster, image, asks
-        self.heartbeat_us = 1000 * self.roster.heartbeat_ms
+    """read(part, ..) gives what is expected of a node, or one of its writes, if any."""
+    def __init__(self, roster, read):
+        self.roster, self.read = roster, read
+        self.heartbeat_us = 1000 * roster.heartbeat_ms
         self.waiting = WaitingFrames()
-        self.stages = {node: NOT_BOOTED for node in self.roster.booted()}      # or a Boot, CONFIGURED, FAILED
+        self.stages = {node: NOT_BOOTED for node in roster.booted}             # or a Boot, CONFIGURED, FAILED
         self.has_started_network = False
         self.notes = []                                # of this instant, with their nodes
-        if self.roster.controller() is None:
-            self.waiting.add(("boot-up",), boot_up_message(self.roster.manager))
+        if roster.controller is None:
+            self.waiting.add(("boot-up",), boot_up_message(roster.manager))
 
     # -------------------------------------------------------- boot of a node
-
     def take(self, frame, now):
-        """A frame of another node."""
         node = frame.id - ERROR_CONTROL
         if is_boot_up(frame) and node in self.stages:
             self.boot(node, now)
-        if is_boot_up(frame) and node == self.roster.controller() and self.has_started_network:
+        if is_boot_up(frame) and node == self.roster.controller and self.has_started_network:
             self.command(START, node)
         node = frame.id - SDO_ANSWER
         if isinstance(self.stages.get(node), Boot) and len(frame.data) == 8:
@@ -57,9 +47,8 @@ class Manager:
         if self.stages[node] == CONFIGURED:
             self.notes.append((node, b"lost"))
         self.waiting.drop(("sdo", node))
-        self.asks("Expect", node)
-        numbers = zip(IDENTITY, self.image.parts["Expect", node])
-        self.go_on(node, Boot(tuple((place, number) for place, number in numbers if number)), now)
+        expected = zip(IDENTITY, self.read("Expect", node))
+        self.go_on(node, Boot(tuple((place, number) for place, number in expected if number)), now)
 
     def send_sdo(self, node, frame):
         self.waiting.add(("sdo", node), Frame(SDO_REQUEST + node, frame))
@@ -67,19 +56,18 @@ class Manager:
     def request(self, node, boot, progress, now):
         """Sends the next frame of a transfer."""
         self.send_sdo(node, progress.frame)
-        self.stages[node] = replace(boot, transfer=progress.transfer, deadline=now + 1000 * self.roster.timeout_ms)
+        self.stages[node] = boot._replace(transfer=progress.transfer, deadline=now + 1000 * self.roster.timeout_ms)
 
     def go_on(self, node, boot, now):
         """With the next comparison, else with the next write; else the node is configured."""
         if boot.expected:
             self.request(node, boot, sdo.upload_start(boot.expected[0][0]), now)
             return
-        self.asks("Boot", node, boot.number)
-        write = self.image.parts.get(("Boot", node, boot.number))
+        write = self.read("Boot", node, boot.number)
         if write is None:
             self.end_configured(node)
         else:
-            self.request(node, boot, sdo.download_start(write.place, write.data), now)
+            self.request(node, boot, sdo.download_start(*write), now)
 
     def take_answer(self, node, answer, now):
         boot = self.stages[node]
@@ -89,11 +77,11 @@ class Manager:
         elif progress.transfer is not None:
             self.request(node, boot, progress, now)
         elif not boot.expected:
-            self.go_on(node, replace(boot, number=boot.number + 1), now)
+            self.go_on(node, boot._replace(number=boot.number + 1), now)
         elif len(progress.read) > 4 or int.from_bytes(progress.read, "little") != boot.expected[0][1]:
             self.end_failed(node, progress, b"difference")
         else:
-            self.go_on(node, replace(boot, expected=boot.expected[1:]), now)
+            self.go_on(node, boot._replace(expected=boot.expected[1:]), now)
 
     def end_failed(self, node, progress, reason):
         if progress.frame is not None:
@@ -102,7 +90,6 @@ class Manager:
         self.notes.append((node, b"failed " + reason))
 
     # ----------------------------------------------------------------- start
-
     def end_configured(self, node):
         self.stages[node] = CONFIGURED
         self.notes.append((node, b"configured"))
@@ -113,18 +100,15 @@ class Manager:
             self.start_network()
 
     def start_network(self):
-        if self.roster.version < 3:
-            self.command(START, 0)
-            return
-        for node in self.roster.nodes:
-            if node == self.roster.controller() or self.stages[node] == CONFIGURED:
-                self.command(START, node)
+        """In version 3 the controller too, which has no stage."""
+        ready = [node for node in self.roster.nodes if self.stages.get(node, CONFIGURED) == CONFIGURED]
+        for node in ready if self.roster.version >= 3 else [0]:
+            self.command(START, node)
 
     def command(self, service, node):
         self.waiting.add(("nmt",), nmt_message(service, node))
 
     # ---------------------------------------------------------------- timers
-
     def run_timers(self, now):
         """The time-outs by node, the heartbeat, TIME, SYNC."""
         for node, stage in self.stages.items():
@@ -144,7 +128,6 @@ class Manager:
         return period > 0 and now > 0 and now % period == 0
 
     def moments(self, now):
-        """The due moments after now."""
         deadlines = [stage.deadline for stage in self.stages.values() if isinstance(stage, Boot)]
         periods = self.heartbeat_us, self.roster.time_us, self.roster.sync_us
         return deadlines + [(now // period + 1) * period for period in periods if period]

@@ -1,45 +1,33 @@
 """What the objects of a PDO can carry, by the data sheet of its node: docs/rules/messages.md.
 
-In versions 1 and 2 what is wanted of a PDO has to be written, and nothing serves that stands by default. In version 3 a
-default serves too, and a PDO that no clean message uses is turned off:
-
-- A PDO is open where its COB-ID can be written, else closed. A closed one has a fixed identifier where its default is
-  on.
-- A mapping is written where the PDO is open and each of its entries can be; else it serves where it stands by default.
-- A parameter is written where it can be, of a closed PDO the transmission type and the event time alone; else it serves
-  where it stands by default, or where it isn't there and is to be 0."""
+In versions 1 and 2 what is wanted of a PDO has to be written. In version 3 what stands by default serves too, and a PDO
+is closed where its COB-ID can't be written: its identifier is fixed, and the transmission type and the event time alone
+are written of it. A PDO that no clean message uses is turned off."""
 from .concise_dcf import Write
-from .values import UNSIGNED8, UNSIGNED16, UNSIGNED32
-from .write_check import EXTENDED, IDENTIFIER, OFF, Dictionary
+from .values import UNSIGNED8, UNSIGNED16, UNSIGNED32, fixed_length
+from .write_check import EXTENDED, IDENTIFIER, OFF, Dictionary, is_restricted
 
 COB_ID, TYPE, INHIBIT, EVENT, START = 1, 2, 3, 5, 6             # sub-indexes of a communication object
 TYPES = {COB_ID: UNSIGNED32, TYPE: UNSIGNED8, INHIBIT: UNSIGNED16, EVENT: UNSIGNED16, START: UNSIGNED8}
 TPDO, RPDO = 0x1800, 0x1400                                     # the communication object of number 1
 OTHER_DUMMY = {0x00050008: 0x00020008, 0x00060010: 0x00030010, 0x00070020: 0x00040020}
 
-
 def is_synchronous(kind):
-    return kind <= 240
+    return kind is not None and kind <= 240
 
+def write_of(index, sub, kind, number):
+    return Write((index, sub), number.to_bytes(fixed_length(kind), "little"))
 
 def numbers_of(project, node, base):
     """The numbers of the PDOs that a node has, by their communication objects."""
-    return [number for number in sorted(index - base + 1 for index in project.sheet(node).shape(node).indices)
-            if 1 <= number <= 512]
+    return [index - base + 1 for index in sorted(project.sheet(node).shape(node).indices) if base <= index < base + 512]
 
-
-def pdo_objects(project, node, base, number):
-    """The objects of a PDO of a node, by the rules of the project's version."""
-    sheet = project.sheet(node)
-    return PdoObjects(Dictionary(sheet.shape(node), sheet.defaults(node)), base, number, project.version >= 3)
-
-
-class PdoObjects:
-    """defaults: the dictionary at power-on. defaults_serve: by the rules of version 3."""
-
-    def __init__(self, defaults, base, number, defaults_serve):
-        self.shape, self.defaults, self.defaults_serve = defaults.shape, defaults, defaults_serve
+class PdoObjects(Dictionary):
+    """Those of a PDO of a node at power-on."""
+    def __init__(self, project, node, base, number):
+        super().__init__(project.sheet(node).shape(node), project.sheet(node).defaults(node))
         self.communication, self.mapping, self.receives = base + number - 1, base + number + 0x1FF, base == RPDO
+        self.defaults_serve = project.version >= 3
 
     def is_writable(self, index, sub, kind):
         """The entry is there with that type, and is neither ro nor const."""
@@ -47,10 +35,9 @@ class PdoObjects:
 
     def default(self, index, sub, kind):
         """None where the entry isn't there with that type, or where no default serves."""
-        return self.defaults.number_at(index, sub, kind) if self.defaults_serve else None
+        return self.number_at(index, sub, kind) if self.defaults_serve else None
 
     # -------------------------------------------------------- the identifier
-
     def is_open(self):
         return self.is_writable(self.communication, COB_ID, UNSIGNED32)
 
@@ -71,21 +58,23 @@ class PdoObjects:
         """The write that turns it off; none where it is off by default, or can't be turned off."""
         if not self.is_open() or self.default_cob_id() is None:
             return []
-        off = self.default_cob_id() | OFF
-        is_taken = self.shape.entry(self.communication, COB_ID).is_within_limits(off)
-        return [Write(self.communication, COB_ID, off.to_bytes(4, "little"))] if is_taken else []
+        write = write_of(self.communication, COB_ID, UNSIGNED32, self.default_cob_id() | OFF)
+        return [write] if self.shape.entry(*write.place).value_check(write.data) is None else []
 
     def identifier_that_stays(self):
         """That of a PDO which is on by default and can't be turned off, or None."""
         return None if self.off_writes() else self.identifier_by_default()
 
-    # ----------- the mapping: an item of None is one of which nothing can be wanted
+    def sends_by_default(self):
+        """It is on with an identifier that stays, and maps something."""
+        identifier, count = self.identifier_that_stays(), self.default(self.mapping, 0, UNSIGNED8)
+        return identifier is not None and not is_restricted(identifier) and count not in (None, 0)
 
+    # ----------- the mapping: an item of None is one of which nothing can be wanted
     def writes_mapping(self, items):
-        subs = range(1, len(items) + 1)
         return (self.is_open() and (len(items) >= 1 or not self.defaults_serve)
                 and self.is_writable(self.mapping, 0, UNSIGNED8)
-                and all(self.is_writable(self.mapping, sub, UNSIGNED32) for sub in subs))
+                and all(self.is_writable(self.mapping, sub, UNSIGNED32) for sub, _ in enumerate(items, 1)))
 
     def mapping_stands(self, items, dummies):
         return (len(items) >= 1 and self.default(self.mapping, 0, UNSIGNED8) == len(items)
@@ -100,28 +89,23 @@ class PdoObjects:
     def mapping_serves(self, items, dummies=()):
         return self.writes_mapping(items) or self.mapping_stands(items, dummies)
 
-    def maps_by_default(self):
-        return self.default(self.mapping, 0, UNSIGNED8) not in (None, 0)
-
     # -------------------------------------------------------- the parameters
-
     def can_be_set(self, sub):
         return self.is_writable(self.communication, sub, TYPES[sub]) and (self.is_open() or sub in (TYPE, EVENT))
 
     def is_written(self, sub, value):
         """In version 3 a time or start value of 0 that lies outside the entry's limits isn't written."""
-        if not self.can_be_set(sub):
-            return False
         may_be_left_out = self.defaults_serve and value == 0 and sub in (INHIBIT, EVENT, START)
-        return not may_be_left_out or self.shape.entry(self.communication, sub).is_within_limits(0)
+        return self.can_be_set(sub) and not (
+            may_be_left_out and self.shape.entry(self.communication, sub).value_check(b"\x00"))
 
     def parameter_serves(self, sub, value):
+        default = self.default(self.communication, sub, TYPES[sub])
         if self.can_be_set(sub):
             return True
-        default = self.default(self.communication, sub, TYPES[sub])
         if sub == TYPE:
             return default is not None and self.type_stands(value, default)
-        return value == (0 if default is None else default)
+        return value == (default or 0)
 
     def type_stands(self, kind, default):
         """A default serves a message of that transmission type."""
@@ -129,12 +113,7 @@ class PdoObjects:
             return is_synchronous(default)
         return default in (254, 255) if self.receives or kind in (254, 255) else default == kind
 
-    def milliseconds_serve(self, milliseconds):
-        """The event time that a `receive` asks for; 0 asks for none."""
-        return milliseconds == 0 or self.parameter_serves(EVENT, milliseconds)
-
     # --------------------------------------------------------- the whole PDO
-
     def sends(self, message, items):
         values = {TYPE: message.type, INHIBIT: message.inhibit, EVENT: message.event, START: message.start}
         return ((self.is_open() or self.fixed_identifier() is not None) and self.mapping_serves(items)

@@ -4,37 +4,26 @@ Version 3 has `receive MESSAGE ID RPDO MS` and `unreceive MESSAGE ID`: the node 
 one that the plan gives) and expects it within so many milliseconds (0: the entry stays as it is); and `time-period US
 DAYS`: the manager sends TIME, and the run begins at midnight of that day. A node may have the manager's number."""
 from dataclasses import dataclass, field
-from typing import Dict, List, Tuple
-
+from typing import Dict, List, NamedTuple, Tuple
+from .commands import FORMS
 from .entries import DataSheet
 from .faults import IN_USE, LIMIT, RANGE, TAKEN, UNKNOWN, refuse_unless
 from .write_check import Place
 
 MOST_TEXTS, MOST_PARAMETERS, MOST_MESSAGES = 64, 4_096, 1_024
 LEAST_VERSION = {b"need": 2, b"receive": 3, b"unreceive": 3, b"time-period": 3}
-
-# Of each edit: which of its arguments names what has to be there.
-NAMED = {b"drop-eds": {0: "texts"}, b"node": {2: "texts"}, b"need": {0: "nodes"}, b"drop-node": {0: "nodes"},
-         b"param": {0: "nodes"}, b"message": {1: "nodes"}, b"start": {0: "messages"}, b"drop-message": {0: "messages"},
-         b"source": {0: "messages"}, b"sink": {0: "messages", 2: "nodes"}, b"receive": {0: "messages", 1: "nodes"},
-         b"drop-event": {0: "events"}}
 # Of each edit that sets a value: which. Of each that puts or removes a line of a table: which, by how many words.
 VALUES = {b"bitrate": "bit_rate", b"horizon": "horizon", b"sync-counter": "sync_counter"}
 PUTS = {b"source": ("sources", 2), b"sink": ("sinks", 3), b"receive": ("receives", 2)}
 REMOVALS = {b"unparam": "parameters", b"unsource": "sources", b"unsink": "sinks", b"unreceive": "receives"}
-
 EVENT_WORDS = {b"set": b"%d %04X %02X %s", b"power": b"%d %s", b"nmt": b"%d %d"}
 
-
-@dataclass
-class Node:
+class Node(NamedTuple):
     name: bytes
     eds: bytes
     is_mandatory: bool = False
 
-
-@dataclass
-class Message:
+class Message(NamedTuple):
     node: int
     tpdo: int
     type: int
@@ -43,9 +32,7 @@ class Message:
     cob_id: int
     start: int = 0
 
-
-@dataclass(frozen=True)
-class Event:
+class Event(NamedTuple):
     time: int
     kind: bytes                # set, power or nmt
     words: Tuple               # behind the kind: node, index, sub-index and text; node and on or off; service and node
@@ -53,7 +40,6 @@ class Event:
     def node(self):
         """0 for an NMT command to all."""
         return self.words[-1 if self.kind == b"nmt" else 0]
-
 
 @dataclass
 class Project:
@@ -81,23 +67,20 @@ class Project:
         return self.manager[0] if self.manager[0] in self.nodes else None
 
     def sources_of(self, message):
-        return sorted((position, place) for (name, position), place in self.sources.items() if name == message)
+        return dict(sorted((key[1], place) for key, place in self.sources.items() if key[0] == message))
 
     def sinks_of(self, message):
-        return {(position, node): place for (name, position, node), place in self.sinks.items() if name == message}
+        return dict(sorted((key[1:], place) for key, place in self.sinks.items() if key[0] == message))
 
     def receives_of(self, message):
-        return {node: numbers for (name, node), numbers in self.receives.items() if name == message}
+        return dict(sorted((key[1], numbers) for key, numbers in self.receives.items() if key[0] == message))
 
-    # ----------------------------------------------------------------- edits
-    # Each judges first and changes then: what is refused changes nothing.
-
+    # ---------- edits: each judges first and changes then, so that what is refused changes nothing
     def accept(self, word, arguments):
-        """The edit of that first word; its refusal is that of the first of Range, Unknown, Taken, InUse and Limit that
-        holds."""
+        """The edit of that first word. The first of Range, Unknown, Taken, InUse and Limit that holds refuses it."""
         refuse_unless(self.version >= LEAST_VERSION.get(word, 1), RANGE)
-        named = NAMED.get(word, {}).items()
-        refuse_unless(all(arguments[place] in getattr(self, table) for place, table in named), UNKNOWN)
+        tables = [(form.table, argument) for form, argument in zip(FORMS.get(word, ()), arguments) if form.table]
+        refuse_unless(all(argument in getattr(self, table) for table, argument in tables), UNKNOWN)
         if word in VALUES:
             setattr(self, VALUES[word], *arguments)
         elif word in PUTS:
@@ -114,7 +97,7 @@ class Project:
         refuse_unless(version > 1 or not any(node.is_mandatory for node in self.nodes.values()), IN_USE)
         refuse_unless(version > 2 or not self.receives and not self.time[0] and self.controller() is None, IN_USE)
         self.version = version
-        self.sheets = {name: sheet.with_types(version >= 3) for name, sheet in self.sheets.items()}
+        self.sheets = {name: DataSheet(sheet.content, version >= 3) for name, sheet in self.sheets.items()}
 
     def edit_manager(self, *numbers):
         refuse_unless(self.version >= 3 or numbers[0] not in self.nodes, TAKEN)
@@ -123,9 +106,10 @@ class Project:
     def edit_time_period(self, period, day):
         self.time = (period, day) if period else (0, 0)
 
-    def edit_eds(self, name, lines, sheet):
+    def edit_eds(self, name, lines, content):
+        sheet = DataSheet(content, self.version >= 3)
         refuse_unless(name in self.texts or len(self.texts) < MOST_TEXTS, LIMIT)
-        self.texts[name], self.sheets[name] = lines, sheet.with_types(self.version >= 3)
+        self.texts[name], self.sheets[name] = lines, sheet
 
     def edit_drop_eds(self, name):
         refuse_unless(all(node.eds != name for node in self.nodes.values()), IN_USE)
@@ -137,12 +121,11 @@ class Project:
         self.nodes[number] = Node(name, eds, number in self.nodes and self.nodes[number].is_mandatory)
 
     def edit_need(self, number, need):
-        self.nodes[number].is_mandatory = need == b"mandatory"
+        self.nodes[number] = self.nodes[number]._replace(is_mandatory=need == b"mandatory")
 
     def edit_drop_node(self, number):
         users = [message.node for message in self.messages.values()] + [event.node() for event in self.events.values()]
-        users += [key[-1] for key in (*self.sinks, *self.receives)]
-        refuse_unless(number not in users, IN_USE)
+        refuse_unless(number not in users + [key[-1] for key in (*self.sinks, *self.receives)], IN_USE)
         del self.nodes[number]
         self.parameters = {key: text for key, text in self.parameters.items() if key[0] != number}
 
@@ -157,7 +140,7 @@ class Project:
         self.messages[name] = Message(node, *numbers, start)
 
     def edit_start(self, name, start):
-        self.messages[name].start = start
+        self.messages[name] = self.messages[name]._replace(start=start)
 
     def edit_drop_message(self, name):
         del self.messages[name]
@@ -174,9 +157,7 @@ class Project:
         del self.events[k]
 
     # ---------------------------------------------------------------- script
-
     def script(self):
-        """The lines of `project`."""
         lines = [b"version %d" % self.version] if self.version > 1 else []
         lines += [b"bitrate %d" % self.bit_rate, b"horizon %d" % self.horizon, b"manager %d %d %d %d" % self.manager]
         lines += [b"time-period %d %d" % self.time] if self.time[0] else []
@@ -193,11 +174,8 @@ class Project:
                         for k, event in sorted(self.events.items())]
 
     def message_lines(self, name, message):
-        numbers = message.node, message.tpdo, message.type, message.inhibit, message.event, message.cob_id
-        lines = [b"message %s %d %d %d %d %d %03X" % (name, *numbers)]
+        lines = [b"message %s %d %d %d %d %d %03X" % (name, *message[:-1])]
         lines += [b"start %s %d" % (name, message.start)] if message.start else []
-        lines += [b"source %s %d %04X %02X" % (name, position, *place) for position, place in self.sources_of(name)]
-        lines += [b"sink %s %d %d %04X %02X" % (name, *key, *place)
-                  for key, place in sorted(self.sinks_of(name).items())]
-        return lines + [b"receive %s %d %d %d" % (name, node, *numbers)
-                        for node, numbers in sorted(self.receives_of(name).items())]
+        lines += [b"source %s %d %04X %02X" % (name, k, *place) for k, place in self.sources_of(name).items()]
+        lines += [b"sink %s %d %d %04X %02X" % (name, *key, *place) for key, place in self.sinks_of(name).items()]
+        return lines + [b"receive %s %d %d %d" % (name, k, *numbers) for k, numbers in self.receives_of(name).items()]

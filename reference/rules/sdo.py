@@ -1,30 +1,23 @@
 """SDO transfers, a device's server and the manager's client: docs/rules/sdo.md.
 
-A frame has eight bytes, with zeros where it uses none. An open transfer is a value that doesn't change; each step gives
-the next one."""
-from dataclasses import dataclass, replace
+A frame has eight bytes, with zeros where it uses none. Each step from an open transfer gives the next one."""
+import struct
 from typing import NamedTuple, Optional, Tuple
-
 from .write_check import LENGTH_DOES_NOT_MATCH, Place
 
 TOGGLE_NOT_ALTERNATED, UNKNOWN_COMMAND, TIMED_OUT = 0x05030000, 0x05040001, 0x05040000
-
 EXPEDITED_DOWNLOAD = {1: 0x2F, 2: 0x2B, 3: 0x27, 4: 0x23}       # the command byte, by the length of the value
 EXPEDITED_UPLOAD = {1: 0x4F, 2: 0x4B, 3: 0x47, 4: 0x43}
 DOWNLOADED_LENGTH = {command: length for length, command in EXPEDITED_DOWNLOAD.items()}
 UPLOADED_LENGTH = {command: length for length, command in EXPEDITED_UPLOAD.items()}
 SEGMENTED_DOWNLOAD, DOWNLOAD_CONFIRMED, UPLOAD_REQUEST, SEGMENTED_UPLOAD = 0x21, 0x60, 0x40, 0x41
 SEGMENT_CONFIRMED, SEGMENT_REQUEST, ABORT, TOGGLE, LAST_SEGMENT = 0x20, 0x60, 0x80, 0x10, 0x1F
+# The stages of a server's transfer, in segments. Those of a client's: asked are an expedited download, one in segments,
+# a segment of it; an upload, a segment of it.
+SERVING_DOWNLOAD, SERVING_UPLOAD = "serving download", "serving upload"
+WRITING, ANNOUNCING, SENDING, READING, RECEIVING = "writing", "announcing", "sending", "reading", "receiving"
 
-SERVING_DOWNLOAD, SERVING_UPLOAD = "serving download", "serving upload"                  # the stages of a server
-WRITING, ANNOUNCING, SENDING = "writing", "announcing", "sending"                        # those of a client
-READING, RECEIVING = "reading", "receiving"
-
-
-@dataclass(frozen=True)
-class Transfer:
-    """Of a server one in segments. Of a client, WRITING: an expedited download is asked; ANNOUNCING: a segmented one;
-    SENDING: a segment of it. READING: an upload is asked; RECEIVING: a segment of it."""
+class Transfer(NamedTuple):
     place: Place
     stage: str
     pieces: Tuple[bytes, ...] = ()     # those that weren't sent yet
@@ -32,62 +25,43 @@ class Transfer:
     data: bytes = b""                  # what came of it so far
     toggle: int = 0                    # of the next segment
 
-
 class Step(NamedTuple):
-    """A frame to send, and the transfer that is open then. At its end: the entry that a server writes, with its data;
-    what a client read, or the code with which it failed."""
-    frame: Optional[bytes] = None
-    transfer: Optional[Transfer] = None
-    written: Optional[Tuple[Place, bytes]] = None
-    read: Optional[bytes] = None
-    failure: Optional[int] = None
-
+    frame: Optional[bytes] = None      # to send
+    transfer: Optional[Transfer] = None                # that is open then
+    written: Optional[Tuple[Place, bytes]] = None      # at its end the entry that a server writes, with its data
+    read: Optional[bytes] = None       # what a client read
+    failure: Optional[int] = None      # the code with which a client failed
 
 # -------------------------------------------------------------------- frames
-
-def with_zeros(data):
-    return data + bytes(8 - len(data))
-
-
 def entry_frame(command, place, rest=b""):
-    return with_zeros(bytes([command]) + place[0].to_bytes(2, "little") + bytes([place[1]]) + rest)
-
+    return struct.pack("<BHB4s", command, *place, rest)
 
 def number_frame(command, place, number):
-    return entry_frame(command, place, number.to_bytes(4, "little"))
+    return struct.pack("<BHBI", command, *place, number)
 
+def command_frame(command, toggle, piece=b""):
+    return struct.pack("<B7s", command + TOGGLE * toggle, piece)
 
-def command_frame(command, toggle):
-    return with_zeros(bytes([command + TOGGLE * toggle]))
-
-
-def place_named(frame):
-    return int.from_bytes(frame[1:3], "little"), frame[3]
-
-
-def number_told(frame):
-    return int.from_bytes(frame[4:8], "little")
-
+def parts_of(frame):
+    """Its command byte, and where it has them the entry that it names and the number or size that it tells."""
+    command, index, sub, number = struct.unpack("<BHBI", frame)
+    return command, (index, sub), number
 
 def toggle_of(frame):
     return frame[0] >> 4 & 1
 
-
 def is_last(frame):
     return bool(frame[0] & 1)
-
 
 def pieces_of(data):
     """Seven bytes a piece; an empty value is one piece of none."""
     return tuple(data[k:k + 7] for k in range(0, len(data), 7)) or (b"",)
 
-
 def next_segment(transfer):
     """The frame of the next piece, and the transfer behind it."""
     piece, rest = transfer.pieces[0], transfer.pieces[1:]
-    frame = with_zeros(bytes([TOGGLE * transfer.toggle + 2 * (7 - len(piece)) + (not rest)]) + piece)
-    return frame, replace(transfer, pieces=rest, toggle=1 - transfer.toggle)
-
+    frame = command_frame(2 * (7 - len(piece)) + (not rest), transfer.toggle, piece)
+    return frame, transfer._replace(pieces=rest, toggle=1 - transfer.toggle)
 
 def with_segment(transfer, frame, code_of_length):
     """The transfer behind a segment that came, and None; or None and the abort code."""
@@ -96,20 +70,19 @@ def with_segment(transfer, frame, code_of_length):
         return None, TOGGLE_NOT_ALTERNATED
     if len(data) > transfer.size or is_last(frame) and len(data) < transfer.size:
         return None, code_of_length
-    return replace(transfer, data=data, toggle=1 - transfer.toggle), None
-
+    return transfer._replace(data=data, toggle=1 - transfer.toggle), None
 
 # -------------------------------------------------------------------- server
-
 def server_answer(transfer, request, dictionary):
-    command, place, stage = request[0], place_named(request), transfer and transfer.stage
+    command, place, size = parts_of(request)
+    stage = transfer and transfer.stage
     if command == ABORT:
         return Step()
     if command in DOWNLOADED_LENGTH:
         data = request[4:4 + DOWNLOADED_LENGTH[command]]
         return write_answer(place, data, dictionary, entry_frame(DOWNLOAD_CONFIRMED, place))
     if command == SEGMENTED_DOWNLOAD:
-        return download_answer(place, number_told(request), dictionary)
+        return download_answer(place, size, dictionary)
     if command == UPLOAD_REQUEST:
         return upload_answer(place, dictionary)
     if command <= LAST_SEGMENT and stage == SERVING_DOWNLOAD:
@@ -118,23 +91,19 @@ def server_answer(transfer, request, dictionary):
         return upload_segment_answer(transfer, request)
     return abort_answer(transfer.place if transfer else (0, 0), UNKNOWN_COMMAND)
 
-
 def abort_answer(place, code):
     """Each abort drops the transfer."""
     return Step(number_frame(ABORT, place, code))
 
-
 def write_answer(place, data, dictionary, confirmation):
     code = dictionary.write_check(*place, data)
     return abort_answer(place, code) if code else Step(confirmation, written=(place, data))
-
 
 def download_answer(place, size, dictionary):
     code = dictionary.shape.access_check(*place) or dictionary.shape.length_check(*place, size)
     if code:
         return abort_answer(place, code)
     return Step(entry_frame(DOWNLOAD_CONFIRMED, place), Transfer(place, SERVING_DOWNLOAD, size=size))
-
 
 def upload_answer(place, dictionary):
     code = dictionary.shape.read_check(*place)
@@ -145,7 +114,6 @@ def upload_answer(place, dictionary):
         return Step(entry_frame(EXPEDITED_UPLOAD[len(data)], place, data))
     return Step(number_frame(SEGMENTED_UPLOAD, place, len(data)), Transfer(place, SERVING_UPLOAD, pieces_of(data)))
 
-
 def download_segment_answer(transfer, request, dictionary):
     following, code = with_segment(transfer, request, LENGTH_DOES_NOT_MATCH)
     if code:
@@ -155,56 +123,48 @@ def download_segment_answer(transfer, request, dictionary):
         return write_answer(transfer.place, following.data, dictionary, confirmation)
     return Step(confirmation, following)
 
-
 def upload_segment_answer(transfer, request):
     if toggle_of(request) != transfer.toggle:
         return abort_answer(transfer.place, TOGGLE_NOT_ALTERNATED)
     frame, following = next_segment(transfer)
     return Step(frame, following if following.pieces else None)
 
-
 # -------------------------------------------------------------------- client
-
 def download_start(place, data):
     if len(data) in EXPEDITED_DOWNLOAD:
         return Step(entry_frame(EXPEDITED_DOWNLOAD[len(data)], place, data), Transfer(place, WRITING))
     return Step(number_frame(SEGMENTED_DOWNLOAD, place, len(data)), Transfer(place, ANNOUNCING, pieces_of(data)))
 
-
 def upload_start(place):
     return Step(entry_frame(UPLOAD_REQUEST, place), Transfer(place, READING))
-
 
 def client_abort(transfer, code):
     return Step(number_frame(ABORT, transfer.place, code), failure=code)
 
-
 def after_answer(transfer, answer):
-    command, names_entry = answer[0], place_named(answer) == transfer.place
-    is_confirmed = command == DOWNLOAD_CONFIRMED and names_entry
+    command, place, number = parts_of(answer)
+    stage, names_entry = transfer.stage, place == transfer.place
     if command == ABORT:
-        return Step(failure=number_told(answer))
-    if transfer.stage == WRITING and is_confirmed:
+        return Step(failure=number)
+    if stage == WRITING and names_entry and command == DOWNLOAD_CONFIRMED:
         return Step()
-    if transfer.stage == ANNOUNCING and is_confirmed:
-        return Step(*next_segment(replace(transfer, stage=SENDING)))
-    if transfer.stage == SENDING and command in (SEGMENT_CONFIRMED, SEGMENT_CONFIRMED + TOGGLE):
+    if stage == ANNOUNCING and names_entry and command == DOWNLOAD_CONFIRMED:
+        return Step(*next_segment(transfer._replace(stage=SENDING)))
+    if stage == SENDING and command in (SEGMENT_CONFIRMED, SEGMENT_CONFIRMED + TOGGLE):
         return after_segment_confirmed(transfer, answer)
-    if transfer.stage == READING and names_entry and command in UPLOADED_LENGTH:
+    if stage == READING and names_entry and command in UPLOADED_LENGTH:
         return Step(read=answer[4:4 + UPLOADED_LENGTH[command]])
-    if transfer.stage == READING and names_entry and command == SEGMENTED_UPLOAD:
-        return Step(command_frame(SEGMENT_REQUEST, 0), replace(transfer, stage=RECEIVING, size=number_told(answer)))
-    if transfer.stage == RECEIVING and command <= LAST_SEGMENT:
+    if stage == READING and names_entry and command == SEGMENTED_UPLOAD:
+        return Step(command_frame(SEGMENT_REQUEST, 0), transfer._replace(stage=RECEIVING, size=number))
+    if stage == RECEIVING and command <= LAST_SEGMENT:
         return after_upload_segment(transfer, answer)
     return client_abort(transfer, UNKNOWN_COMMAND)
-
 
 def after_segment_confirmed(transfer, answer):
     """What is confirmed is the segment before the next one."""
     if toggle_of(answer) == transfer.toggle:
         return client_abort(transfer, TOGGLE_NOT_ALTERNATED)
     return Step(*next_segment(transfer)) if transfer.pieces else Step()
-
 
 def after_upload_segment(transfer, answer):
     following, code = with_segment(transfer, answer, UNKNOWN_COMMAND)

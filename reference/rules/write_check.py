@@ -1,19 +1,16 @@
 """Entries, what a device answers to a write or a read, and how PDOs carry values: docs/rules/write_check.md.
 
-The values of a device are a dict from (index, sub) to bytes: it has one for each entry of a modelled type. Each check
-gives the abort code of the first line that refuses, or None. In version 3 a REAL is mapped as an integer is, and its
-limits aren't asked."""
-from dataclasses import dataclass, field
-from typing import Dict, FrozenSet, Optional, Tuple
-
-from .values import BOOLEAN, LONGEST_VALUE, UNSIGNED8, UNSIGNED32, fixed_length, is_integer, number_in, width_bits
+Each check gives the abort code of the first line that refuses, or None. In version 3 a REAL is mapped as an integer
+is, and its limits aren't asked."""
+from dataclasses import dataclass
+from typing import Dict, FrozenSet, NamedTuple, Optional, Tuple
+from .values import BOOLEAN, LONGEST_VALUE, UNSIGNED8, UNSIGNED32, fixed_length, number_in, width_bits
 
 UNSUPPORTED_ACCESS, WRITE_ONLY, READ_ONLY = 0x06010000, 0x06010001, 0x06010002
 NO_OBJECT, NO_SUB_INDEX = 0x06020000, 0x06090011
 CANNOT_BE_MAPPED, PDO_LENGTH_EXCEEDED = 0x06040041, 0x06040042
 LENGTH_DOES_NOT_MATCH, LENGTH_TOO_HIGH = 0x06070010, 0x06070012
 INVALID_VALUE, VALUE_TOO_HIGH, VALUE_TOO_LOW = 0x06090030, 0x06090031, 0x06090032
-
 OFF, NO_RTR, EXTENDED, IDENTIFIER = 1 << 31, 1 << 30, 1 << 29, 0x7FF        # bits of a COB-ID
 RESTRICTED = ((0x000, 0x07F), (0x101, 0x180), (0x581, 0x5FF), (0x601, 0x67F), (0x6E0, 0x6FF), (0x701, 0x7FF))
 RPDO_OBJECTS, TPDO_OBJECTS = range(0x1400, 0x1600), range(0x1800, 0x1A00)
@@ -23,14 +20,12 @@ SENDABLE, RECEIVABLE = ("ro", "rw", "rwr", "const"), ("wo", "rw", "rww")
 
 Place = Tuple[int, int]        # index and sub-index
 
-
-@dataclass(frozen=True)
-class Entry:
+class Entry(NamedTuple):
     type: Optional[int]        # None where it isn't modelled
     access: str                # ro, wo, rw, rwr, rww or const
-    low: Optional[int] = None
-    high: Optional[int] = None
-    has_mapping: bool = False  # its PDOMapping is a number other than 0
+    low: Optional[int]         # of an integer alone
+    high: Optional[int]
+    has_mapping: bool          # its PDOMapping is a number other than 0
 
     def is_mappable(self, receives):
         accesses = RECEIVABLE if receives else SENDABLE
@@ -39,26 +34,30 @@ class Entry:
     def is_writable(self):
         return self.type is not None and self.access not in ("ro", "const")
 
-    def is_within_limits(self, number):
-        return (self.low is None or number >= self.low) and (self.high is None or number <= self.high)
-
+    def value_check(self, data):
+        number = number_in(self.type, data)
+        if self.type == BOOLEAN and number > 1:
+            return INVALID_VALUE
+        if self.low is not None and number < self.low:
+            return VALUE_TOO_LOW
+        return VALUE_TOO_HIGH if self.high is not None and number > self.high else None
 
 @dataclass
 class Shape:
     """The entries of a device, and the types of which it allows dummies."""
-    entries: Dict[Place, Entry] = field(default_factory=dict)
-    dummies: FrozenSet[int] = frozenset()
+    entries: Dict[Place, Entry]
+    dummies: FrozenSet[int]
 
     def __post_init__(self):
         self.indices = {index for index, _ in self.entries}
+        self.types = {place: entry.type for place, entry in self.entries.items()}
 
     def entry(self, index, sub):
         return self.entries.get((index, sub))
 
     def has_type(self, index, sub, kind):
         """The entry is there, and of exactly this type."""
-        entry = self.entry(index, sub)
-        return entry is not None and entry.type == kind
+        return self.types.get((index, sub)) == kind
 
     def access_check(self, index, sub):
         """What needs no value."""
@@ -89,10 +88,8 @@ class Shape:
             return width_bits(entry.type)
         return width_bits(index) if receives and sub == 0 and index in self.dummies else None
 
-
 class Dictionary:
     """The entries of a device, and their values: bytes by index and sub-index, of each entry of a modelled type."""
-
     def __init__(self, shape, values):
         self.shape, self.values = shape, values
 
@@ -102,7 +99,7 @@ class Dictionary:
 
     def write_check(self, index, sub, data):
         return (self.shape.access_check(index, sub) or self.shape.length_check(index, sub, len(data))
-                or value_check(self.shape.entry(index, sub), data) or self.cob_id_check(index, sub, data)
+                or self.shape.entry(index, sub).value_check(data) or self.cob_id_check(index, sub, data)
                 or self.mapping_object_check(index, sub, data))
 
     def cob_id_check(self, index, sub, data):
@@ -110,9 +107,8 @@ class Dictionary:
         if sub != 1 or index not in COMMUNICATION_OBJECTS or not self.shape.has_type(index, 1, UNSIGNED32):
             return None
         old, new = self.number_at(index, 1, UNSIGNED32), number_in(UNSIGNED32, data)
-        takes_restricted = not new & OFF and is_restricted(new & IDENTIFIER)
-        changes_frames = not new & OFF and not old & OFF and (old ^ new) & (EXTENDED | EXTENDED - 1)
-        return INVALID_VALUE if takes_restricted or changes_frames else None
+        changes_frames = not old & OFF and (old ^ new) & (EXTENDED | EXTENDED - 1)
+        return INVALID_VALUE if not new & OFF and (changes_frames or is_restricted(new & IDENTIFIER)) else None
 
     def mapping_object_check(self, index, sub, data):
         """A mapping changes while its PDO is off and, from sub-index 1 on, its count 0."""
@@ -135,12 +131,10 @@ class Dictionary:
 
     def payload_of(self, mapping):
         """The frame of the mapped values: position p is bit p mod 8 of byte p div 8."""
-        bits, position = 0, 0
-        for item in mapping:
-            length = item & 0xFF
-            data = self.values.get(mapped_place(item), b"")
-            bits |= (int.from_bytes(data, "little") & (1 << length) - 1) << position
-            position += length
+        bits = 0
+        for item in reversed(mapping):
+            data, length = self.values.get(mapped_place(item), b""), item & 0xFF
+            bits = bits << length | int.from_bytes(data, "little") & (1 << length) - 1
         return bits.to_bytes(bytes_begun(mapping), "little")
 
     def takes(self, place, data):
@@ -148,31 +142,15 @@ class Dictionary:
         entry = self.shape.entry(*place)
         return entry is not None and entry.is_mappable(True) and self.write_check(*place, data) is None
 
-
 def is_restricted(identifier):
     return any(low <= identifier <= high for low, high in RESTRICTED)
-
-
-def value_check(entry, data):
-    if entry.type == BOOLEAN and data[0] > 1:
-        return INVALID_VALUE
-    if is_integer(entry.type):
-        number = number_in(entry.type, data)
-        if entry.low is not None and number < entry.low:
-            return VALUE_TOO_LOW
-        if entry.high is not None and number > entry.high:
-            return VALUE_TOO_HIGH
-    return None
-
 
 def mapped_place(item):
     """The entry that a mapping entry names."""
     return item >> 16, item >> 8 & 0xFF
 
-
 def bytes_begun(mapping):
     return (sum(item & 0xFF for item in mapping) + 7) // 8
-
 
 def pieces_of_payload(mapping, data):
     """Each mapped entry with its bits, as a value of as many bytes as these begin."""
