@@ -73,14 +73,14 @@ fn find_all(
 /// for the next time.
 ///
 /// Reads each text of a node that the library hasn't read, and each other text that isn't the same as before. Else takes
-/// time by the length of these others, the number of the texts' warnings, the entries and parameters of each node that
-/// isn't the same, with the same device, as when it was last found, the parameters and the length of the text of each
-/// other, the entries of each node that sends a message, the messages for each node, the events, and the diagnostics
-/// with their logarithm; in version 3 also for each node the consumers of the messages and 512 PDOs of each kind, each
-/// with the logarithm of the node's entries, and for each receive the sinks of its message. Takes memory by the number
-/// of diagnostics, the devices of the nodes' texts and of one more, the parameters of all nodes, and for each node the
-/// entries that its data sheet gives a parameter or a doubtful default, and the values that are wanted of it; in version 3
-/// also by the writes of one node's PDOs. Want of memory is the only error.
+/// time by the length of each text, once, the number of the texts' warnings, the entries and parameters of each node
+/// that isn't the same, with the same device, as when it was last found, the parameters of each other, the entries of
+/// each node that sends a message, the messages for each node, the events, and the diagnostics with their logarithm; in
+/// version 3 also for each node the consumers of the messages and 512 PDOs of each kind, each with the logarithm of the
+/// node's entries, and for each receive the sinks of its message. Takes memory by the number of diagnostics, the devices
+/// of the nodes' texts and of one more with the entries that these give a parameter or a doubtful default, the parameters
+/// of all nodes, and for each node the values that are wanted of it; in version 3 also by the writes of one node's PDOs.
+/// Want of memory is the only error.
 pub fn diagnostics_by(
     alloc: Global,
     library: &mut Library<'_>,

@@ -1,13 +1,15 @@
 //! What is found of all nodes, gathered.
 ghost use Rattle.std.specs.Prelude.{◌≡◌, ◌++◌, IfOk, OnOk, false, true};
+ghost use Rattle.std.specs.FinMap as map;
 ghost use Rattle.std.specs.List.{flat_map};
 ghost use Rattle.project_edits.specs.Versions.{is_three};
 ghost use Rattle.project_plan.specs.Network.{member_of, members, plan_of_project};
 ghost use Rattle.project_plan.specs.Wanted.{sends};
 ghost use Rattle.diag_nodes.specs.Alone.{Keeps};
-ghost use Rattle.project_plan.specs.Library.{IsRead};
+ghost use Rattle.project_plan.specs.Library.{AreRead, IsRead};
 ghost use Rattle.diag_nodes.specs.Devices.{AreAllRead, of_node};
 ghost use Rattle.diag_nodes.specs.Found.{consumers, counters, identifiers, times, unreadable_defaults};
+ghost use Rattle.diag_nodes.specs.Held.{HoldsNoOther};
 ghost use Rattle.diag_nodes.specs.Kept.{numbers_by};
 ghost use Rattle.diag_nodes.specs.Rules.{consumers_in, counters_in, identifiers_in, times_in};
 ghost use Rattle.diag_nodes.specs.Sheets.{faults_of_node};
@@ -136,19 +138,23 @@ fn gather_of(
     node: &Node,
     device: Shared<DataSheet>,
 ) -> Result<(), AllocError>
+    requires { HoldsNoOther nodes.old node.now.eds device }
     ensures faults { OnOk result (faults.new.items
         ≡ faults.old.items ++ faults_of_node (member_of id node.now device)) }
     ensures defaults { OnOk result (gathered.new.defaults.items
         ≡ gathered.old.defaults.items ++ unreadable_defaults (member_of id node.now device)) }
     ensures kept { OnOk result (Keeps (numbers_by is_three plan.now) (member_of id node.now device)
         gathered.old.kept gathered.new.kept) }
+    ensures nodes { OnOk result (nodes.new ≡ map.insert nodes.old node.now.eds device) }
 {
     if let Some(found) = nodes.current(id, node, device.get()) {
-        return gather_found(faults, gathered, alloc, is_three, plan, found);
+        gather_found(faults, gathered, alloc, is_three, plan, found)?;
+        return Ok(());
     }
     let found = nodes.find(alloc, id, node, device)?;
     gather_found(faults, gathered, alloc, is_three, plan, &found)?;
-    nodes.put(found)
+    nodes.put(node, found)?;
+    Ok(())
 }
 
 /// Gathers it of a node, where it has a device.
@@ -162,7 +168,8 @@ fn gather_node(
     id: u8,
     node: &Node,
 ) -> Result<(), AllocError>
-    requires { IsRead library.now node.now.eds }
+    requires read { IsRead library.now node.now.eds }
+    requires current { AreRead library.now.project nodes.old }
     ensures faults { OnOk result (faults.new.items
         ≡ faults.old.items ++ of_node faults_of_node library.now.project (id, node.now)) }
     ensures defaults { OnOk result (gathered.new.defaults.items
@@ -175,6 +182,7 @@ fn gather_node(
         ++ of_node (times_in (numbers_by (is_three library.now.project.version) plan.now)) library.now.project (id, node.now)) }
     ensures counters { OnOk result (gathered.new.kept.counters.items ≡ gathered.old.kept.counters.items
         ++ of_node (counters_in (numbers_by (is_three library.now.project.version) plan.now)) library.now.project (id, node.now)) }
+    ensures current { OnOk result (AreRead library.now.project nodes.new) }
 {
     let Some(device) = shared_device(library, node.eds.as_slice())? else {
         return Ok(());
@@ -189,11 +197,12 @@ fn gather_node(
 /// Gathers what is found of all nodes: the faults of their parameters at the end of what was found, so that these and
 /// the defaults come in order each. What is found of a node by itself is found again where it changed alone.
 ///
-/// Takes time by the entries and parameters of each node that isn't the same, with the same device, as when it was last
-/// found, the parameters and the length of the text of each other, the entries of each node that sends a message, and
-/// the messages for each node; in version 3 also for each node the consumers of the messages and 512 PDOs of each kind.
-/// Takes memory by what is found, and for each node by its parameters, the entries that its data sheet gives a parameter
-/// or a doubtful default, and the values that are wanted of it. Want of memory is the only error.
+/// Takes time by the length of the text of each data sheet that a node has, the entries and parameters of each node
+/// that isn't the same, with the same device, as when it was last found, the parameters of each other, the entries of
+/// each node that sends a message, and the messages for each node; in version 3 also for each node the consumers of the
+/// messages and 512 PDOs of each kind. Takes memory by what is found, for each node by its parameters and the values
+/// that are wanted of it, and for each data sheet by the entries that it gives a parameter or a doubtful default. Want
+/// of memory is the only error.
 pub fn gather_nodes(
     faults: &mut Vec<Diag>,
     alloc: Global,
@@ -212,7 +221,7 @@ pub fn gather_nodes(
     ensures times { IfOk result (λ g. g.kept.times.items ≡ times library.now.project) }
     ensures counters { IfOk result (λ g. g.kept.counters.items ≡ counters library.now.project) }
 {
-    nodes.let_go(library.project());
+    nodes.let_go(library);
     let mut gathered = Gathered {
         defaults: Vec::new(alloc),
         kept: Kept::new(alloc),

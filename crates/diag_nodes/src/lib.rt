@@ -10,6 +10,7 @@ mod node_found;
 mod nodes;
 mod nodes_found;
 mod parameters;
+mod sheet_found;
 
 pub use consumer::HeartbeatConsumer;
 pub use devices::{device_for, device_of, read_all};

@@ -1,5 +1,5 @@
 //! What is found of a node by itself, kept with what it was found by.
-ghost use Rattle.std.specs.Prelude.{◌≡◌, IfOk, IfSome, IsTrue};
+ghost use Rattle.std.specs.Prelude.{◌≡◌, IfOk, IsTrue};
 ghost use Rattle.project_plan.specs.Network.{member_of};
 ghost use Rattle.project_plan.specs.Sheets.{AreEntriesOf};
 ghost use Rattle.project_plan.specs.Wanted.{values_given};
@@ -25,8 +25,6 @@ pub(crate) struct NodeFound {
     id: u8,
     node: Node,
     device: Shared<DataSheet>,
-    /// The entries of its data sheet that have to be looked at.
-    entries: Shared<SheetEntries>,
     /// The faults of its parameters.
     faults: Vec<Diag>,
     /// Its unreadable defaults.
@@ -42,7 +40,6 @@ impl Model for NodeFound {
     ghost use Rattle.co_project.specs.contracts.node.Node as own_node;
     ghost use Rattle.eds_device.specs.contracts.data_sheet.DataSheet as own_device;
     ghost use Rattle.project_plan.specs.Network.{Member, member_of};
-    ghost use Rattle.project_plan.specs.Sheets.{AreEntriesOf};
     ghost use Rattle.project_plan.specs.Wanted.{values_given};
     ghost use Rattle.diag_nodes.specs.Alone.{alone, member_code, IsKeptOf};
     ghost use Rattle.diag_nodes.specs.Found.{unreadable_defaults};
@@ -54,8 +51,7 @@ impl Model for NodeFound {
 
     ghost view = { λ f. member_of f.id f.node f.device };
 
-    ghost invariant = { λ f. AreEntriesOf f.device f.entries
-        × (f.faults.items ≡ faults_of_node (member_of f.id f.node f.device))
+    ghost invariant = { λ f. (f.faults.items ≡ faults_of_node (member_of f.id f.node f.device))
         × (f.defaults.items ≡ unreadable_defaults (member_of f.id f.node f.device))
         × (f.given ≡ values_given f.device f.node.params f.id)
         × IsKeptOf alone (member_of f.id f.node f.device) f.kept };
@@ -117,13 +113,13 @@ impl NodeFound {
         id: u8,
         node: &Node,
         device: Shared<DataSheet>,
-        entries: Shared<SheetEntries>,
+        entries: &SheetEntries,
     ) -> Result<NodeFound, AllocError>
-        requires { AreEntriesOf device entries }
+        requires { AreEntriesOf device entries.now }
         ensures { IfOk result (λ found. found ≡ member_of id node.now device) }
     {
-        let faults = faults_of(alloc, id, node, device.get(), entries.get())?;
-        let defaults = defaults_of(alloc, id, node, device.get(), entries.get())?;
+        let faults = faults_of(alloc, id, node, device.get(), entries)?;
+        let defaults = defaults_of(alloc, id, node, device.get(), entries)?;
         let given = values_given(alloc, id, &node.params, device.get())?;
         let kept = kept_of(alloc, id, node, device.get(), &given)?;
         let node = node.clone()?;
@@ -131,7 +127,6 @@ impl NodeFound {
             id,
             node,
             device,
-            entries,
             faults,
             defaults,
             given,
@@ -139,26 +134,12 @@ impl NodeFound {
         })
     }
 
-    /// Whether it was found by this. Takes time by the length of the node's parameters and of the device's text, and no
-    /// memory.
-    pub(crate) fn is_of(&self, id: u8, node: &Node, device: &DataSheet) -> bool
-        ensures { IsTrue result → self.now ≡ member_of id node.now device.now }
+    /// Whether it was found by this, with the device that it has. Takes time by the length of the node's parameters,
+    /// and no memory.
+    pub(crate) fn is_of(&self, id: u8, node: &Node) -> bool
+        ensures { IsTrue result → self.now ≡ member_of id node.now self.now.1.sheet }
     {
-        self.id == id && self.node.same(node) && self.device.get().same(device)
-    }
-
-    /// The entries of a device that have to be looked at, if it is this node's.
-    pub(crate) fn entries_of(
-        &self,
-        device: &DataSheet,
-    ) -> Result<Option<Shared<SheetEntries>>, AllocError>
-        ensures { IfOk result (λ found. IfSome found (AreEntriesOf device.now)) }
-    {
-        if !self.device.get().same(device) {
-            return Ok(None);
-        }
-        let entries = self.entries.share()?;
-        Ok(Some(entries))
+        self.id == id && self.node.same(node)
     }
 
     /// The number of the node.

@@ -43,14 +43,16 @@ module _ (id : ℕ) where
   others_known : (es : List (ℕ × Node)) → list_any (eq_by_cmp nat_cmp id) (keys_of es) ≡ false
       → AreOthers (keys_of es)
   others_known [] none = tt
-  others_known (e ∷ es) none = by (eq_by_cmp nat_cmp id e.0) refl none
+  others_known (e ∷ es) none = by (eq_by_cmp nat_cmp id e.0) refl none (others_known es)
     where
       by : (same : Bool) → eq_by_cmp nat_cmp id e.0 ≡ same
-          → (same || list_any (eq_by_cmp nat_cmp id) (keys_of es)) ≡ false → AreOthers (keys_of (e ∷ es))
-      by true is some = absurd (false≢true (sym some))
-      by false is others = (
+          → (same || list_any (eq_by_cmp nat_cmp id) (keys_of es)) ≡ false
+          → (list_any (eq_by_cmp nat_cmp id) (keys_of es) ≡ false → AreOthers (keys_of es))
+          → AreOthers (keys_of (e ∷ es))
+      by true is some more = absurd (false≢true (sym some))
+      by false is none more = (
         λ same. false≢true (sym is ∙ ap (eq_by_cmp nat_cmp id) same ∙ ap is_eq (tied_itself nat_cmp_total id)),
-        others_known es others,
+        more none,
       )
 
 others_mandatory : (p : Project) → AllByRecursion (λ n. n ≢ p.manager.id) (mandatory_of p)

@@ -1,12 +1,25 @@
 use Rattle.std.proofs.Common.{◌∙◌, Bool, ap, refl, subst, sym}
 use Rattle.co_project.specs.Project.{Content}
+use Rattle.project_plan.specs.Library.{AreRead, Devices}
 use Rattle.diag_nodes.specs.Alone.{Keeps}
 use Rattle.project_edits.specs.Versions.{is_three}
 use Rattle.diag_nodes.specs.Kept.{numbers_by}
 use Rattle.diag_nodes.specs.Rules.{consumers_in, counters_in, identifiers_in, times_in}
 use Rattle.project_plan.specs.Network.{device_at, member_of}
+use Rattle.diag_nodes.proofs.HeldLemmas.{no_other, still_now}
 use Rattle.diag_nodes.proofs.WalkLemmas.{found_there}
 use Rattle.diag_nodes.proofs.gathering.gather_node.Goals as goal
+
+pub gather_of-requires : goal.gather_of-requires
+gather_of-requires c =
+    no_other c.args.library.now.project c.args.nodes.now c.args.node.now.eds c.in-Some.device c.requires.current
+    (ap (device_at c.args.library.now.project) (sym c.as_slice.ensures) ∙ sym c.in_ok-device.ensures ∙ c.in-Some.is)
+
+pub returns-clause-current : goal.returns-clause-current
+returns-clause-current c =
+    subst (λ (sheets : Devices). AreRead c.args.library.now.project sheets) (sym c.in_ok-gather_of.ensures.nodes)
+    (still_now c.args.library.now.project c.args.nodes.now c.args.node.now.eds c.in-Some.device c.requires.current
+    (ap (device_at c.args.library.now.project) (sym c.as_slice.ensures) ∙ sym c.in_ok-device.ensures ∙ c.in-Some.is))
 
 pub returns-clause-identifiers : goal.returns-clause-identifiers
 returns-clause-identifiers c =

@@ -24,6 +24,7 @@ loop-id-init c =
     let f = numbers_by (is_three p.version) c.args.plan.now in
     record {
       read = subst (All (λ e. IsRead c.args.library.now e.1.eds)) (sym start) c.requires.read;
+      current = c.let_go.ensures;
       faults = ap (λ (xs : List (ℕ × Node)). c.args.faults.now.items ++ flat_map (of_node faults_of_node p) xs) start;
       defaults = ap (λ ds. ds ++ flat_map (of_node unreadable_defaults p) es) c.new.ensures.items
           ∙ ap (flat_map (of_node unreadable_defaults p)) start;
@@ -37,8 +38,8 @@ loop-id-init c =
           ∙ ap (flat_map (of_node (counters_in f) p)) start;
     }
 
-pub gather_node-requires : goal.gather_node-requires
-gather_node-requires c =
+pub gather_node-requires-clause-read : goal.gather_node-requires-clause-read
+gather_node-requires-clause-read c =
     let e : ℕ × Node = (c.in-Some.id.now, c.in-Some.node.now) in
     let left : c.loop-id.id-iterator ≡ e ∷ c.next.new.self = search rules in
     All-head (λ e. IsRead c.args.library.now e.1.eds) e c.next.new.self
@@ -51,6 +52,7 @@ loop-id-preserved c =
     record {
       read = All-tail (λ e. IsRead c.args.library.now e.1.eds) e c.next.new.self
           (subst (λ (es : List (ℕ × Node)). All (λ e. IsRead c.args.library.now e.1.eds) es) left c.loop-id.invariant.read);
+      current = c.in_ok-gather_node.ensures.current;
       faults = walk_on (of_node faults_of_node c.args.library.now.project) _
           c.loop-id.faults.items c.gather_node.new.faults.items e c.next.new.self c.loop-id.id-iterator left
           c.in_ok-gather_node.ensures.faults c.loop-id.invariant.faults;
