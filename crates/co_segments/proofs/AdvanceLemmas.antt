@@ -1,14 +1,14 @@
 -- A trace goes on.
 use Rattle.std.proofs.Common.{◌≡◌, ℕ, ◌+◌, ◌≤◌, IfOk, IsErr, List, Result, subst, ◌∙◌, arith}
-use Rattle.std.proofs.lemmas.Result.{IfOk-from_err, IfOk-weaker}
+use Rattle.std.proofs.lemmas.Result.{IfOk-from_err, on_ok_weaker}
 use Rattle.image_parts.specs.declared.asked.Asked.{Ghosts as Asked}
 use Rattle.can_bus.specs.Bus.{Bus}
 use Rattle.kept_values.specs.Work.{Rises}
 use Rattle.image_parts.specs.Contents.{Content, Image}
 use Rattle.image_parts.specs.declared.part.Part.{Part}
 use Rattle.co_segments.specs.declared.reached.Reached.{Reached}
-use Rattle.co_segments.specs.Advances.{Advances, Goes, Progress}
-use Rattle.co_segments.specs.Segments.{IsServed, Segment, recorded_of}
+use Rattle.co_segments.specs.Progress.{Goes, Progress, state_of}
+use Rattle.co_segments.specs.Segments.{Advances, Segment, TraceState, recorded_of}
 use Rattle.co_segments.specs.Stocks.{AreSegments, StandsAt, held_in}
 
 -- memory ran out
@@ -18,10 +18,14 @@ pub goes_wrong : {P E : Type 0} {asked : Asked P Part Content} {number : ℕ} {h
     → (asked.seen new.parts).image ≡ (asked.seen old.parts).image → Rises old.work new.work
     → Goes asked number here looked_at old new result
 goes_wrong {asked = asked} {number = number} {here = here} {looked_at = looked_at} {old = old} {new = new}
-    {result = result} e segments capacity kept rises = record {
-      advances = IfOk-from_err result (λ end. Advances asked number here looked_at old new end.state.bus) e;
-      stands = IfOk-from_err result
-          (λ end. StandsAt (asked.seen old.parts).image (number + 1) new.stock new.telling.look end) e;
+    {result = result} e segments capacity kept rises =
+    let image = (asked.seen old.parts).image in
+    record {
+      read = 0;
+      advances = IfOk-from_err result (λ end. Advances image old.stock.recent.capacity number (state_of here old 0)
+          (state_of end.state.bus new 0)) e;
+      stands = IfOk-from_err result (λ end. StandsAt image (number + 1) new.stock new.telling.look end) e;
+      counted = IfOk-from_err result (λ _. asked.asks new.parts ≤ asked.asks old.parts + recorded_of number looked_at + 0) e;
       segments = segments;
       capacity = capacity;
       kept = kept;
@@ -38,26 +42,19 @@ pub goes_from : {P E : Type 0} {asked : Asked P Part Content} {number : ℕ} {he
     → Goes asked number here looked_at old new result
 goes_from {asked = asked} {number = number} {here = here} {some = some} {looked_at = looked_at} {old = old}
     {between = between} {new = new} {result = result} h held capacity told work image counted =
-    let moved : (end : Reached) → Advances asked number here some between new end.state.bus
-    → Advances asked number here looked_at old new end.state.bus = λ end a. record {
-      kept = a.kept;
-      rest = a.rest;
-      ran = a.ran;
-      read = a.read;
-      served = subst (λ (i : Image). IsServed i (held_in old.stock) number here a.kept a.rest a.ran a.read) image
-          (subst (λ (ks : List Segment).
-          IsServed (asked.seen between.parts).image ks number here a.kept a.rest a.ran a.read) held a.served);
-      end_is = a.end_is;
-      told_is = rw (← told) a.told_is;
-      held_is = rw (← capacity) a.held_is;
-      run = rw (← work) a.run;
-      counted = omega (arith, a.counted, counted);
-    } in
+    let state : state_of here between 0 ≡ state_of here old 0 =
+    λ i. record { bus = here; held = held i; told = told i; work = work i; read = 0 } in
+    let asks : asked.asks new.parts ≤ asked.asks between.parts + recorded_of number some + h.read
+    → asked.asks new.parts ≤ asked.asks old.parts + recorded_of number looked_at + h.read =
+    λ a. omega (arith, a, counted) in
     record {
-      advances = IfOk-weaker result (λ end. Advances asked number here some between new end.state.bus)
-          (λ end. Advances asked number here looked_at old new end.state.bus) moved h.advances;
+      read = h.read;
+      advances = subst (λ (u : Image × ℕ × TraceState).
+          IfOk result (λ end. Advances u.0 u.1 number u.2 (state_of end.state.bus new h.read)))
+          (λ i. (image i, capacity i, state i)) h.advances;
       stands = subst (λ (i : Image). IfOk result (λ end. StandsAt i (number + 1) new.stock new.telling.look end)) image
           h.stands;
+      counted = on_ok_weaker result asks h.counted;
       segments = h.segments;
       capacity = h.capacity ∙ capacity;
       kept = h.kept ∙ image;

@@ -1,6 +1,6 @@
 -- Segments with numbers of their states.
 use Rattle.std.proofs.Common.{◌≡◌, ℕ, zero, suc, ◌≤◌, true, false, ◌⊎◌, inl, inr, List, [], ◌∷◌, ◌++◌, take, length}
-use Rattle.std.proofs.Common.{Contains, Option, Some, None, nat_eq, refl, sym, ap, subst, ◌∙◌, arith, length-append}
+use Rattle.std.proofs.Common.{Contains, Some, None, nat_eq, refl, sym, ap, subst, ◌∙◌, arith, length-append}
 use Rattle.std.specs.Map.{lookup, lookup_entry, remove_entry}
 use Rattle.std.proofs.lemmas.List.{take_all}
 use Rattle.lru.specs.LruCache.{promoted}
@@ -10,13 +10,10 @@ use Rattle.can_bus.specs.Bus.{Bus}
 use Rattle.co_segments.specs.Placed.{AreNamed, AreSound, IsLater, IsNamed, ServesNone, IsEndNumber}
 use Rattle.co_segments.specs.Placed.{Meaning, Numbered, Placed, kept_of}
 use Rattle.co_segments.specs.declared.numbers_given.NumbersGiven.{NumbersGiven}
-use Rattle.trace_spans.specs.Records.{IsRecordOf}
 use Rattle.trace_spans.proofs.KnownLemmas.{all_marked_later}
 use Rattle.trace_spans.proofs.NumberLemmas.{stands_later}
-use Rattle.image_parts.specs.Asking.{outcome, reads}
 use Rattle.image_parts.specs.Contents.{Image}
-use Rattle.co_segments.specs.Segments.{IsServed, IsValidOnce, IsStale, IsTaken, Segment, Serves}
-use Rattle.can_bus.specs.Spans.{span}
+use Rattle.co_segments.specs.Segments.{Advances, IsValidOnce, IsStale, Segment, Serves, TraceState, Uses}
 use Rattle.co_segments.proofs.ValidLemmas.{gives_from_serves, valid_from_sound}
 
 -- ---- what a look-up finds
@@ -34,11 +31,12 @@ in_lookup key (e ∷ es) s h = (elim (nat_eq key e.0) as (λ t. nat_eq key e.0 �
       (rest.0, tail_in e es (rest.0, s) rest.1)
 ]) refl
 
--- the promoted entries, without their keys: the segment, and the rest
+-- the segments before and after one that goes first
 pub record IsFirst (key : ℕ) (es : List (ℕ × Placed)) (s : Placed) : Type 0 where
-  pub rest : List Segment
-  pub taken : IsTaken (kept_of es) s.kept rest
-  pub others : kept_of (remove_entry (nat_eq key) es) ≡ rest
+  pub before : List Segment
+  pub after : List Segment
+  pub held_is : kept_of es ≡ before ++ s.kept ∷ after
+  pub others : kept_of (remove_entry (nat_eq key) es) ≡ before ++ after
   pub key_found : ℕ
   pub found : lookup_entry (nat_eq key) es ≡ Some (key_found, s)
 
@@ -53,13 +51,9 @@ first_from_lookup key (e ∷ es) s h = (elim (nat_eq key e.0) as (λ t. nat_eq k
       let h' = rw t at h in
       let same : e.1 ≡ s = cc in
       record {
-        rest = kept_of es;
-        taken = record {
-          before = [];
-          after = kept_of es;
-          held_is = ap (λ (p : Placed). p.kept ∷ kept_of es) same;
-          rest_is = refl;
-        };
+        before = [];
+        after = kept_of es;
+        held_is = ap (λ (p : Placed). p.kept ∷ kept_of es) same;
         others = rw t refl;
         key_found = e.0;
         found = rw t (ap (λ (p : Placed). Some (e.0, p)) same);
@@ -67,13 +61,9 @@ first_from_lookup key (e ∷ es) s h = (elim (nat_eq key e.0) as (λ t. nat_eq k
   | false ↦ λ t.
       let f = first_from_lookup key es s (rw t at h) in
       record {
-        rest = e.1.kept ∷ f.rest;
-        taken = record {
-          before = e.1.kept ∷ f.taken.before;
-          after = f.taken.after;
-          held_is = ap (λ ks. e.1.kept ∷ ks) f.taken.held_is;
-          rest_is = ap (λ ks. e.1.kept ∷ ks) f.taken.rest_is;
-        };
+        before = e.1.kept ∷ f.before;
+        after = f.after;
+        held_is = ap (λ ks. e.1.kept ∷ ks) f.held_is;
         others = rw t (ap (λ ks. e.1.kept ∷ ks) f.others);
         key_found = f.key_found;
         found = rw t f.found;
@@ -81,7 +71,7 @@ first_from_lookup key (e ∷ es) s h = (elim (nat_eq key e.0) as (λ t. nat_eq k
 ]) refl
 
 pub kept_promoted : (key : ℕ) (es : List (ℕ × Placed)) (s : Placed) (f : IsFirst key es s)
-    → kept_of (promoted (nat_eq key) es) ≡ s.kept ∷ f.rest
+    → kept_of (promoted (nat_eq key) es) ≡ s.kept ∷ (f.before ++ f.after)
 kept_promoted key es s f = rw f.found (ap (λ ks. s.kept ∷ ks) f.others)
 
 length_kept : (es : List (ℕ × Placed)) → length (kept_of es) ≡ length es
@@ -89,20 +79,18 @@ length_kept [] = refl
 length_kept (e ∷ es) = omega (arith, length_kept es)
 
 -- a held segment that goes first pushes none out
-pub promoted_fits : (key : ℕ) (es : List (ℕ × Placed)) (s : Placed) (f : IsFirst key es s) (capacity : ℕ)
-    → length es ≤ capacity → kept_of (promoted (nat_eq key) es) ≡ take capacity (s.kept ∷ f.rest)
+promoted_fits : (key : ℕ) (es : List (ℕ × Placed)) (s : Placed) (f : IsFirst key es s) (capacity : ℕ)
+    → length es ≤ capacity → kept_of (promoted (nat_eq key) es) ≡ take capacity (s.kept ∷ (f.before ++ f.after))
 promoted_fits key es s f capacity fits =
-    let all : length (kept_of es) ≡ length (f.taken.before ++ s.kept ∷ f.taken.after) = ap length f.taken.held_is in
-    let some : length f.rest ≡ length (f.taken.before ++ f.taken.after) = ap length f.taken.rest_is in
+    let all : length (kept_of es) ≡ length (f.before ++ s.kept ∷ f.after) = ap length f.held_is in
     kept_promoted key es s f
-    ∙ sym (take_all capacity (s.kept ∷ f.rest) (omega (
+    ∙ sym (take_all capacity (s.kept ∷ (f.before ++ f.after)) (omega (
       arith,
       fits,
       length_kept es,
       all,
-      some,
-      length-append f.taken.before (s.kept ∷ f.taken.after),
-      length-append f.taken.before f.taken.after,
+      length-append f.before (s.kept ∷ f.after),
+      length-append f.before f.after,
     )))
 
 kept_take : (n : ℕ) (es : List (ℕ × Placed)) → kept_of (take n es) ≡ take n (kept_of es)
@@ -194,37 +182,16 @@ new_added n key s es number bus other h = λ image k c serves.
     one_stale image number bus (key, s) es (λ x. other x.0) (h image) k
     (Contains-take n (s.kept ∷ kept_of es) k (subst (λ ks. Contains ks k) (kept_added n key s es) c)) serves
 
-or_placed : Placed → Option Placed → Placed
-or_placed d None = d
-or_placed d (Some p) = p
-
-some_same : (s s' : Placed) → Some s ≡ Some s' → s ≡ s'
-unfolding or_placed
-some_same s s' e = ap (or_placed s) e
-
--- a held segment that is of use
-pub used_served : (image : Image) (es : List (ℕ × Placed)) (number key : ℕ) (start : Bus) (s s' : Placed) → AreSound es
-    → lookup (nat_eq key) es ≡ Some s → Serves image number start s.kept
-    → (found : lookup (nat_eq key) es ≡ Some s')
-    → IsServed image (kept_of es) number start s'.kept (first_from_lookup key es s' found).rest 0 0
-used_served image es number key start s s' h found serves found' =
-    let same : s ≡ s' = some_same s s' (sym found ∙ found') in
-    let serves' : Serves image number start s'.kept =
-    subst (λ (x : Placed). Serves image number start x.kept) same serves
-    in
-    let c = in_lookup key es s' found' in
-    record {
-      number_is = serves'.0;
-      start_is = serves'.1;
-      gives = gives_from_serves image number start s'.kept (valid_from_sound s'.kept (h (c.0, s') c.1)) serves';
-      how = inl ((first_from_lookup key es s' found').taken, refl, refl);
-    }
-
--- none is, and one is run
-pub ran_served : (image : Image) (held : List Segment) (number : ℕ) (start : Bus) (kept : Segment)
-    → IsStale image held number start → kept.number ≡ number → kept.start ≡ start
-    → outcome (span number start) image ≡ (kept.end, kept.lines)
-    → IsRecordOf (reads (span number start) image) kept.reads
-    → IsServed image held number start kept held 1 (length (reads (span number start) image))
-ran_served image held number start kept stale n s g r =
-    record { number_is = n; start_is = s; gives = g; how = inr (stale, refl, refl, refl, r) }
+-- a held segment that serves is used, and goes first
+pub uses_held : (image : Image) (capacity number : ℕ) (s next : TraceState) (key : ℕ) (es : List (ℕ × Placed))
+    (p : Placed) → AreSound es → length es ≤ capacity → lookup (nat_eq key) es ≡ Some p
+    → Serves image number s.bus p.kept → s.held ≡ kept_of es
+    → next ≡ record s { bus = p.kept.end; held = kept_of (promoted (nat_eq key) es); told = s.told ++ p.kept.lines }
+    → Advances image capacity number s next
+uses_held image capacity number s next key es p sound fits found serves held is =
+    let f = first_from_lookup key es p found in
+    let c = in_lookup key es p found in
+    let gives = gives_from_serves image number s.bus p.kept (valid_from_sound p.kept (sound (c.0, p) c.1)) serves in
+    let first = promoted_fits key es p f capacity fits in
+    Uses p.kept f.before f.after (held ∙ f.held_is) serves gives
+    (is ∙ (λ i. record s { bus = p.kept.end; held = first i; told = s.told ++ p.kept.lines }))

@@ -1,9 +1,9 @@
 -- Kept segments of a run.
-use Rattle.std.specs.Prelude.{◌≡◌, ℕ, zero, suc, ◌+◌, ◌⊎◌, List, [], ◌++◌, ◌∷◌, length}
-use Rattle.std.specs.Prelude.{Contains, take, nat_le, if◌then◌else◌, ◌==◌, refl}
+use Rattle.std.specs.Prelude.{◌≡◌, ℕ, zero, suc, ◌+◌, ◌-◌, ◌^◌, List, [], ◌++◌, ◌∷◌, length}
+use Rattle.std.specs.Prelude.{Contains, min, take, nat_le, if◌then◌else◌, ◌==◌, refl}
 use Rattle.std.specs.Coded.{Coded, code_by, coded×, coded_list, coded_ℕ}
 use Rattle.image_parts.specs.Asking.{outcome, reads, Agrees}
-use Rattle.kept_values.specs.Work.{IsMoreBy, Work}
+use Rattle.kept_values.specs.Work.{Work}
 use Rattle.image_parts.specs.Contents.{Content, Image}
 use Rattle.image_parts.specs.declared.part.Part.{Part}
 use Rattle.can_bus.specs.Bus.{Bus, blank_bus}
@@ -64,55 +64,51 @@ abbrev pub recorded_from : ℕ → List Segment → ℕ
 recorded_from number [] = 0
 recorded_from number (k ∷ ks) = (if nat_le number k.number then length k.reads else 0) + recorded_from number ks
 
--- ---- a trace, segment by segment
+-- ---- a trace, window by window
 
--- the segment is one of those held, and the others are the rest
-pub record IsTaken (held : List Segment) (kept : Segment) (rest : List Segment) : Type 0 where
-  pub before : List Segment
-  pub after : List Segment
-  pub held_is : held ≡ before ++ kept ∷ after
-  pub rest_is : rest ≡ before ++ after
+-- WHERE A TRACE STANDS: the bus that it has reached, what is held, what was told, what was counted, and how many values
+-- were read by runs
+pub record TraceState : Type 0 where
+  pub bus : Bus
+  pub held : List Segment
+  pub told : List Line
+  pub work : Work
+  pub read : ℕ
 
--- how a segment was come by: it serves, and was taken out of those held; or its number was stale, and it was run, and
--- records each name once of what its span read. `ran` counts the runs, `read` their readings
-pub record IsServed (image : Image) (held : List Segment) (number : ℕ) (start : Bus) (kept : Segment)
-    (rest : List Segment)
-    (ran read : ℕ) : Type 0 where
+-- at the power-on
+abbrev pub at_power_on : List Segment → Work → TraceState
+at_power_on held work = record { bus = blank_bus; held = held; told = []; work = work; read = 0 }
+
+-- behind a window: the bus at its end, its lines told, and its segment first, before the others
+abbrev pub behind : ℕ → Segment → List Segment → TraceState → TraceState
+behind capacity kept others s =
+    record s { bus = kept.end; held = take capacity (kept ∷ others); told = s.told ++ kept.lines }
+
+-- one more run is counted, up to 2^64 - 1, and how many values it read
+abbrev pub with_run : ℕ → TraceState → TraceState
+with_run read s =
+    record s { work = record s.work { segments = min (s.work.segments + 1) (2 ^ 64 - 1) }; read = s.read + read }
+
+-- the segment was run: its lines and its end are those of the span, and it records each name once of what that read
+pub record IsRun (image : Image) (number : ℕ) (start : Bus) (kept : Segment) : Type 0 where
   pub number_is : kept.number ≡ number
   pub start_is : kept.start ≡ start
   pub gives : outcome (span number start) image ≡ (kept.end, kept.lines)
-  pub how : (IsTaken held kept rest × (ran ≡ 0) × (read ≡ 0))
-      ⊎ (IsStale image held number start × (rest ≡ held) × (ran ≡ 1)
-      × (read ≡ length (reads (span number start) image)) × IsRecordOf (reads (span number start) image) kept.reads)
+  pub recorded : IsRecordOf (reads (span number start) image) kept.reads
 
--- one more segment: what was before it, and how it was come by; it goes first
-pub record Further (image : Image) (capacity number : ℕ) (before : Bus → List Segment → List Line → ℕ → ℕ → Type 0)
-    (s : Bus) (held : List Segment) (told : List Line) (ran read : ℕ) : Type 0 where
-  pub s₀ : Bus
-  pub held₀ : List Segment
-  pub told₀ : List Line
-  pub ran₀ : ℕ
-  pub read₀ : ℕ
-  pub kept : Segment
-  pub rest : List Segment
-  pub here : ℕ
-  pub read_here : ℕ
-  pub earlier : before s₀ held₀ told₀ ran₀ read₀
-  pub served : IsServed image held₀ number s₀ kept rest here read_here
-  pub state_is : s ≡ kept.end
-  pub held_is : held ≡ take capacity (kept ∷ rest)
-  pub told_is : told ≡ told₀ ++ kept.lines
-  pub ran_is : ran ≡ ran₀ + here
-  pub read_is : read ≡ read₀ + read_here
+-- A TRACE ADVANCES by one window
+pub data Advances (image : Image) (capacity number : ℕ) (s next : TraceState) : Type 0 where
+  -- one of the held segments serves, and is USED
+  Uses : (kept : Segment) (before after : List Segment) → s.held ≡ before ++ kept ∷ after
+      → Serves image number s.bus kept → outcome (span number s.bus) image ≡ (kept.end, kept.lines)
+      → next ≡ behind capacity kept (before ++ after) s → Advances image capacity number s next
+  -- none serves, and the window is RUN
+  Runs : (kept : Segment) → IsStale image s.held number s.bus → IsRun image number s.bus kept
+      → next ≡ with_run (length (reads (span number s.bus) image)) (behind capacity kept s.held s)
+      → Advances image capacity number s next
 
--- THE FIRST `count` SEGMENTS OF A TRACE: the bus reached, what is held, what was told, how many were run, and how
--- many readings these made
-abbrev pub Traced : Image → ℕ → List Segment → ℕ → Bus → List Segment → List Line → ℕ → ℕ → Type 0
-Traced image capacity held₀ zero s held told ran read = (s ≡ blank_bus) × (held ≡ held₀) × (told ≡ []) × (ran ≡ 0)
-    × (read ≡ 0)
-Traced image capacity held₀ (suc count) s held told ran read =
-    Further image capacity count (Traced image capacity held₀ count) s held told ran read
-
--- exactly that many more segments were counted, up to 2^64 - 1, and no part
-abbrev pub HasRun : ℕ → Work → Work → Type 0
-HasRun ran old new = IsMoreBy ran old.segments new.segments × (new.parts ≡ old.parts)
+-- THE FIRST `count` WINDOWS OF A TRACE
+abbrev pub Traced : Image → ℕ → TraceState → ℕ → TraceState → Type 0
+Traced image capacity start zero s = s ≡ start
+Traced image capacity start (suc count) s =
+    (before : TraceState) × (Traced image capacity start count before × Advances image capacity count before s)

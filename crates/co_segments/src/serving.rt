@@ -4,9 +4,10 @@ ghost use Rattle.std.specs.Prelude.{◌≡◌, ◌≤◌, ◌+◌, ℕ, [], IfOk
 ghost use Rattle.std.specs.Map.{lookup};
 ghost use Rattle.image_parts.specs.Asking.{reads};
 ghost use Rattle.can_bus.specs.Spans.{span};
-ghost use Rattle.kept_values.specs.LastUsed.{HasNumber, use_first};
-ghost use Rattle.co_segments.specs.Advances.{CanRun, Goes, IsUsed, Runs, progress};
+ghost use Rattle.kept_values.specs.LastUsed.{HasNumber, put_first, use_first};
 ghost use Rattle.co_segments.specs.Placed.{IsMore, Placed};
+ghost use Rattle.co_segments.specs.Progress.{CanRun, Goes, Tells, progress};
+ghost use Rattle.co_segments.specs.Segments.{IsRun};
 ghost use Rattle.co_segments.specs.Sights.{AreSightsOf};
 ghost use Rattle.co_segments.specs.Stocks.{ArePassed, AreSegments, LooksAhead, StandsAt, held_in, left_from};
 
@@ -51,7 +52,7 @@ pub(crate) fn give(
 
 /// Tells what a segment told, and gives the bus at its end.
 fn tell(segment: &Segment, told: &mut TraceText) -> Result<NumberedBus, AllocError>
-    ensures { IfOk result (λ end. IsUsed segment.now told.old told.new end) }
+    ensures { IfOk result (λ end. Tells segment.now told.old told.new end) }
 {
     let lines = segment.told()?;
     told.add(lines)?;
@@ -62,7 +63,7 @@ fn tell(segment: &Segment, told: &mut TraceText) -> Result<NumberedBus, AllocErr
 fn follow(recent: &mut Recent<Segment>, told: &mut TraceText) -> Result<NumberedBus, AllocError>
     requires { (e : ℕ × Placed) × (slice_get recent.old.ahead 0 ≡ Some e) }
     ensures used { IfOk result (λ end. (e : ℕ × Placed)
-        × ((slice_get recent.old.ahead 0 ≡ Some e) × IsUsed e.1 told.old told.new end)) }
+        × ((slice_get recent.old.ahead 0 ≡ Some e) × Tells e.1 told.old told.new end)) }
     ensures first { OnOk result ((e : ℕ × Placed) → slice_get recent.old.ahead 0 ≡ Some e
         → recent.new ≡ record (use_first e.0 recent.old) { ahead = drop 1 recent.old.ahead }) }
     ensures err { OnErr result (recent.new ≡ recent.old) }
@@ -84,7 +85,7 @@ fn use_held(
     requires settled { recent.old.ahead ≡ [] }
     requires turn { HasNumber (λ (s : Placed). s.kept.number) key recent.old.turn recent.old.entries }
     ensures used { IfOk result (λ end. (s : Placed)
-        × ((lookup (nat_eq key) recent.old.entries ≡ Some s) × IsUsed s told.old told.new end)) }
+        × ((lookup (nat_eq key) recent.old.entries ≡ Some s) × Tells s told.old told.new end)) }
     ensures first { OnOk result (recent.new ≡ use_first key recent.old) }
     ensures err { OnErr result (recent.new ≡ recent.old) }
 {
@@ -107,8 +108,10 @@ fn run_new<P: Parts>(
     requires settled { stock.old.recent.ahead ≡ [] }
     requires can { CanRun (P.seen parts.now).image number here.state.bus }
     requires stands { StandsAt (P.seen parts.now).image number stock.old telling.old.look here }
-    ensures ran { IfOk result (λ end. Runs (P.seen parts.old).image number here.state.bus
-        stock.old stock.new telling.old telling.new end.state.bus) }
+    ensures ran { IfOk result (λ end. (s : Placed) × (
+        IsRun (P.seen parts.old).image number here.state.bus s.kept
+        × (stock.new.recent ≡ put_first s stock.old.recent)
+        × Tells s telling.old.told telling.new.told end.state)) }
     ensures stands { IfOk result (λ end. StandsAt (P.seen parts.old).image (number + 1)
         stock.new telling.new.look end) }
     ensures err { OnErr result (stock.new.recent ≡ stock.old.recent) }

@@ -1,13 +1,10 @@
 //! A store of segments.
 
-ghost use Rattle.std.specs.Prelude.{◌≡◌, ◌≤◌, ◌<◌, ◌+◌, ◌/◌, ℕ, [], Contains, IfOk, List, OnOk, filter, length};
-ghost use Rattle.can_bus.specs.Bus.{Bus};
+ghost use Rattle.std.specs.Prelude.{◌≡◌, ◌≤◌, ◌<◌, ◌+◌, ◌/◌, [], Contains, IfOk, OnOk, filter, length};
 ghost use Rattle.can_bus.specs.Runs.{is_shown, trace as trace_of};
-ghost use Rattle.can_bus.specs.declared.line.Line.{Line as Told};
 ghost use Rattle.image_parts.specs.Images.{IsImage};
-ghost use Rattle.co_segments.specs.Advances.{Traces};
-ghost use Rattle.co_segments.specs.Segments.{HasRun, IsValidOnce, Segment, Traced, recorded_from};
-ghost use Rattle.co_segments.specs.Stocks.{AreSegments};
+ghost use Rattle.co_segments.specs.Segments.{IsValidOnce, Segment, TraceState, Traced, at_power_on, recorded_from};
+ghost use Rattle.co_segments.specs.Stocks.{AreSegments, held_in};
 ghost use Rattle.trace_spans.specs.Spans.{lines_of_spans};
 ghost use Rattle.kept_values.specs.Work.{Rises};
 
@@ -73,8 +70,10 @@ fn tell_spans<P: Parts>(
     requires image { IsImage (P.seen parts.now).image }
     requires segments { AreSegments stock.old }
     ensures lines { IfOk result (λ told. told ≡ lines_of_spans (P.seen parts.old).image count) }
-    ensures traces { IfOk result (λ told. Traces P.Asked count stock.old stock.new meter.old meter.new
-        parts.old parts.new told) }
+    ensures traced { IfOk result (λ told. (end : TraceState) × (
+        Traced (P.seen parts.old).image stock.old.recent.capacity (at_power_on (held_in stock.old) meter.old) count end
+        × (held_in stock.new ≡ end.held) × (told ≡ end.told) × (meter.new ≡ end.work)
+        × (P.asks parts.new ≤ P.asks parts.old + recorded_from 0 (held_in stock.old) + end.read))) }
     ensures segments { AreSegments stock.new }
     ensures capacity { stock.new.recent.capacity ≡ stock.old.recent.capacity }
     ensures kept { (P.seen parts.new).image ≡ (P.seen parts.old).image }
@@ -133,11 +132,11 @@ impl Store {
         requires soon { horizon < END }
         requires image { IsImage (P.seen parts.old).image }
         ensures lines { IfOk result (λ told. told ≡ trace_of (P.seen parts.old).image horizon) }
-        ensures traced { IfOk result (λ told. (end : Bus) × ((all : List Told) × ((ran : ℕ) × ((read : ℕ) × (
-            Traced (P.seen parts.old).image self.old.capacity self.old.segments (horizon / 10000 + 1)
-            end self.new.segments all ran read
-            × HasRun ran meter.old meter.new
-            × (P.asks parts.new ≤ P.asks parts.old + recorded_from 0 self.old.segments + read)))))) }
+        ensures traced { IfOk result (λ told. (end : TraceState) × (
+            Traced (P.seen parts.old).image self.old.capacity (at_power_on self.old.segments meter.old)
+            (horizon / 10000 + 1) end
+            × (self.new.segments ≡ end.held) × (meter.new ≡ end.work)
+            × (P.asks parts.new ≤ P.asks parts.old + recorded_from 0 self.old.segments + end.read))) }
         ensures capacity { self.new.capacity ≡ self.old.capacity }
         ensures kept { (P.seen parts.new).image ≡ (P.seen parts.old).image }
         ensures asked { OnOk result ((P.seen parts.new).asked ≡ []) }
@@ -163,11 +162,11 @@ impl Store {
         requires soon { horizon < END }
         requires image { IsImage (P.seen parts.old).image }
         ensures lines { IfOk result (λ told. told.items ≡ trace_of (P.seen parts.old).image horizon) }
-        ensures traced { IfOk result (λ told. (end : Bus) × ((all : List Told) × ((ran : ℕ) × ((read : ℕ) × (
-            Traced (P.seen parts.old).image self.old.capacity self.old.segments (horizon / 10000 + 1)
-            end self.new.segments all ran read
-            × HasRun ran meter.old meter.new
-            × (P.asks parts.new ≤ P.asks parts.old + recorded_from 0 self.old.segments + read)))))) }
+        ensures traced { IfOk result (λ told. (end : TraceState) × (
+            Traced (P.seen parts.old).image self.old.capacity (at_power_on self.old.segments meter.old)
+            (horizon / 10000 + 1) end
+            × (self.new.segments ≡ end.held) × (meter.new ≡ end.work)
+            × (P.asks parts.new ≤ P.asks parts.old + recorded_from 0 self.old.segments + end.read))) }
         ensures capacity { self.new.capacity ≡ self.old.capacity }
         ensures kept { (P.seen parts.new).image ≡ (P.seen parts.old).image }
         ensures asked { OnOk result ((P.seen parts.new).asked ≡ []) }

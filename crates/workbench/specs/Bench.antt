@@ -1,10 +1,8 @@
 -- What contracts see of a workbench, and what bringing parts up to date does to it.
-use Rattle.std.specs.Prelude.{◌≡◌, ℕ, ◌+◌, ◌/◌, List, [], refl}
+use Rattle.std.specs.Prelude.{◌≡◌, ℕ, ◌+◌, ◌/◌, [], refl}
 use Rattle.std.specs.Coded.{Coded, code_by, coded×}
-use Rattle.can_bus.specs.Bus.{Bus}
-use Rattle.can_bus.specs.declared.line.Line.{Line}
 use Rattle.co_project.specs.Project.{Content}
-use Rattle.co_segments.specs.Segments.{HasRun, HeldSegments, Traced}
+use Rattle.co_segments.specs.Segments.{HeldSegments, TraceState, Traced, at_power_on}
 use Rattle.network_image.specs.Image.{image_of}
 use Rattle.kept_values.specs.Stale.{AreBrought}
 use Rattle.kept_values.specs.Work.{Work}
@@ -59,15 +57,13 @@ pub record Brings (named : List Part) (old new : Bench) : Type 0 where
 -- is run, counted and kept; the store holds as many as before at most
 pub record BenchTraces (old new : Bench) : Type 0 where
   pub between : Work
-  pub end : Bus
-  pub told : List Line
-  pub ran : ℕ
-  pub read : ℕ
+  pub end : TraceState
   pub parts : AreBrought same_part (inputs_of old.project) (reached_by_trace old.project) (left_of old.project old.parts)
       (kept_inputs new.parts) old.work between
-  pub traced : Traced (image_of old.project) old.store.capacity old.store.segments (old.project.horizon / 10000 + 1) end
-      new.store.segments told ran read
-  pub run : HasRun ran between new.work
+  pub traced : Traced (image_of old.project) old.store.capacity (at_power_on old.store.segments between)
+      (old.project.horizon / 10000 + 1) end
+  pub store : new.store.segments ≡ end.held
+  pub work : new.work ≡ end.work
   pub capacity : new.store.capacity ≡ old.store.capacity
 
 -- WHAT AN ANSWER TAKES: of a file or of diagnostics, what it is made from is held as it is to be made from the project,

@@ -1,8 +1,6 @@
 //! The trace of a project.
-ghost use Rattle.std.specs.Prelude.{◌≡◌, ◌+◌, ◌/◌, ℕ, IfOk, List};
-ghost use Rattle.can_bus.specs.Bus.{Bus};
-ghost use Rattle.can_bus.specs.declared.line.Line.{Line as Told};
-ghost use Rattle.co_segments.specs.Segments.{HasRun, Traced};
+ghost use Rattle.std.specs.Prelude.{◌≡◌, ◌+◌, ◌/◌, IfOk};
+ghost use Rattle.co_segments.specs.Segments.{TraceState, Traced, at_power_on};
 ghost use Rattle.network_image.specs.Image.{image_of};
 ghost use Rattle.network_image.specs.Network.{image_held};
 ghost use Rattle.workbench.specs.Queries.{trace_of};
@@ -28,10 +26,10 @@ pub(crate) fn traced(
 ) -> Result<TraceText, AllocError>
     requires { image_held network ≡ image_of project.now }
     ensures lines { IfOk result (λ told. told ≡ trace_of project.now) }
-    ensures traced { IfOk result (λ told. (end : Bus) × ((all : List Told) × ((ran : ℕ) × ((read : ℕ) × (
-        Traced (image_of project.now) store.old.capacity store.old.segments (project.now.horizon / 10000 + 1)
-        end store.new.segments all ran read
-        × HasRun ran meter.old meter.new))))) }
+    ensures traced { IfOk result (λ told. (end : TraceState) × (
+        Traced (image_of project.now) store.old.capacity (at_power_on store.old.segments meter.old)
+        (project.now.horizon / 10000 + 1) end
+        × (store.new.segments ≡ end.held) × (meter.new ≡ end.work))) }
     ensures capacity { store.new.capacity ≡ store.old.capacity }
     ensures rises { Rises meter.old meter.new }
 {

@@ -6,13 +6,13 @@ use Rattle.kept_values.specs.LastUsed.{LastUsed, use_first}
 use Rattle.co_segments.specs.declared.reached.Reached.{Reached}
 use Rattle.co_segments.specs.declared.stock.Stock.{Stock}
 use Rattle.co_segments.specs.declared.telling.Telling.{Telling}
-use Rattle.co_segments.specs.Advances.{progress}
-use Rattle.co_segments.specs.Placed.{Numbered, Placed, kept_of}
+use Rattle.co_segments.specs.Placed.{Placed, kept_of}
+use Rattle.co_segments.specs.Progress.{progress, state_of}
 use Rattle.co_segments.specs.Segments.{Serves}
 use Rattle.co_segments.specs.Stocks.{StandsAt}
 use Rattle.co_segments.proofs.AdvanceLemmas.{goes_from, goes_wrong}
 use Rattle.co_segments.proofs.NumberedLemmas.{all_stale, first_recorded, none_passed, numbered_recorded}
-use Rattle.co_segments.proofs.PlacedLemmas.{first_from_lookup, promoted_fits, used_served}
+use Rattle.co_segments.proofs.PlacedLemmas.{uses_held}
 use Rattle.co_segments.proofs.StockLemmas.{segments_from_told, segments_later, stands_used}
 use Rattle.co_segments.proofs.serving.advance.Goals as goal
 
@@ -60,9 +60,9 @@ returns-in_ok-state-in-Some-true g c =
     subst (λ (x : ℕ × Placed). lookup (nat_eq x.0) old.entries ≡ Some x.1) same a.held in
     let serves : Serves image number here u.1.kept =
     subst (λ (x : ℕ × Placed). Serves image number here x.1.kept) same (a.answer.0 c.in-Some-true.field-0-test) in
-    let among = first_from_lookup u.0 old.entries u.1 held in
     let before : Stock = c.look_ahead.new.stock in
     let after : Stock = record before { recent = c.follow.new.recent } in
+    let telling : Telling = record { look = c.look_ahead.new.look; told = c.follow.new.told } in
     let moved = e.first u e.used.1.0 in
     let first : c.follow.new.recent ≡ record (use_first u.0 old) { ahead = drop 1 old.ahead } = rw l.recent at moved in
     let end : Reached = record {
@@ -75,20 +75,19 @@ returns-in_ok-state-in-Some-true g c =
     stands_used image before after number look c.args.here end u.0 u.1 l.stands (rw l.recent held)
     (ap (λ (x : LastUsed Placed). x.entries) moved) (ap (λ (x : LastUsed Placed). x.turn) moved) refl used.end_is refl in
     record {
-      advances = record {
-        kept = u.1.kept;
-        rest = among.rest;
-        ran = 0;
-        read = 0;
-        served = used_served image old.entries number u.0 here u.1 u.1 c.requires.stands.told.sound held serves held;
-        end_is = ap (λ (n : Numbered). n.bus) used.end_is;
-        told_is = used.told_is;
-        held_is = ap (λ (x : LastUsed Placed). kept_of x.entries) first
-            ∙ promoted_fits u.0 old.entries u.1 among old.capacity c.len-count.ensures.fits;
-        run = ((omega arith, omega arith), refl);
-        counted = omega (arith, a.counted, first_recorded number old.entries a.entry a.first);
-      };
+      read = 0;
+      advances = uses_held image old.capacity number
+          (state_of here (progress c.args.stock.now c.args.telling.now c.args.meter.now c.args.parts.now) 0)
+          (state_of end.state.bus (progress after telling c.args.meter.now c.look_ahead.new.parts) 0) u.0 old.entries u.1
+          c.requires.stands.told.sound c.len-count.ensures.fits held serves refl (λ i. record {
+            bus = (used.end_is i).bus;
+            held = kept_of (first i).entries;
+            told = used.told_is i;
+            work = c.args.meter.now;
+            read = 0;
+          });
       stands = stands;
+      counted = omega (arith, a.counted, first_recorded number old.entries a.entry a.first);
       segments = segments_from_told image after look end.state stands.told;
       capacity = ap (λ (x : LastUsed Placed). x.capacity) first;
       kept = l.kept;

@@ -1,8 +1,8 @@
 use Rattle.std.proofs.Common.{ap, refl, arith}
 use Rattle.kept_values.specs.LastUsed.{LastUsed}
 use Rattle.co_segments.specs.declared.stock.Stock.{Stock}
-use Rattle.co_segments.specs.Advances.{progress}
 use Rattle.co_segments.specs.Placed.{Placed, kept_of}
+use Rattle.co_segments.specs.Progress.{progress}
 use Rattle.co_segments.proofs.AdvanceLemmas.{goes_from, goes_wrong}
 use Rattle.co_segments.proofs.StockLemmas.{segments_fewer, segments_from_told, stands_settled}
 use Rattle.co_segments.proofs.serving.pass_on.Goals as goal

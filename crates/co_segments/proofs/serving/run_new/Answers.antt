@@ -29,17 +29,19 @@ returns-clause-ran g c =
     let placed : c.new-segment.result ≡ placed_of c.args.number c.args.here.state ran.reads.items ran.told end =
     c.new-segment.ensures ∙ same_placed c.args.number c.args.here.state ran.reads.items c.in_ok-lines.lines ran.told
     end c.in_ok-copy.copy lines c.in_ok-copy.ensures in
-    let bus : end.bus ≡ ran.end = reached_bus _ _ _ ran.end end c.in_ok-end.ensures.reached in
-    record {
-      placed = placed_of c.args.number c.args.here.state ran.reads.items ran.told end;
-      first = rw placed at c.in_ok-add-2.ensures.ok;
-      end_is = refl;
-      number_is = refl;
-      start_is = refl;
-      recorded = rw c.bus.ensures at c.in_ok-ran.ensures.recorded;
-      gives = rw bus (rw c.bus.ensures at c.in_ok-ran.ensures.gives);
-      told_is = rw (c.in_ok-share.ensures, lines) at c.in_ok-add.ensures.added;
-    }
+    let bus : end.bus ≡ ran.end = reached_bus _ _ _ ran.end end c.in_ok-end.ensures.reached in (
+      placed_of c.args.number c.args.here.state ran.reads.items ran.told end,
+      (
+        record {
+          number_is = refl;
+          start_is = refl;
+          gives = rw bus (rw c.bus.ensures at c.in_ok-ran.ensures.gives);
+          recorded = rw c.bus.ensures at c.in_ok-ran.ensures.recorded;
+        },
+        rw placed at c.in_ok-add-2.ensures.ok,
+        record { end_is = refl; told_is = rw (c.in_ok-share.ensures, lines) at c.in_ok-add.ensures.added },
+      ),
+    )
 
 pub returns-clause-stands : goal.returns-clause-stands
 returns-clause-stands g c =
@@ -64,8 +66,12 @@ returns-clause-stands g c =
     subst (λ (b : Bus). IsEndNumber old.recent.entries old.given.buses c.reach.new.given b end) (sym bus)
     c.in_ok-end.ensures.reached in
     let kept = (placed_of number start ran.reads.items ran.told end).kept in
-    let sound = sound_from_run image number start.bus kept refl refl
-    (rw c.bus.ensures at c.in_ok-ran.ensures.recorded) (rw bus (rw c.bus.ensures at c.in_ok-ran.ensures.gives)) in
+    let sound = sound_from_run image number start.bus kept (record {
+      number_is = refl;
+      start_is = refl;
+      gives = rw bus (rw c.bus.ensures at c.in_ok-ran.ensures.gives);
+      recorded = rw c.bus.ensures at c.in_ok-ran.ensures.recorded;
+    }) in
     record {
       turn = ap (λ (x : LastUsed Placed). x.turn) first ∙ ap (λ n. n + 1) c.requires.stands.turn;
       told = told_reached image old new c.args.telling.now.look c.run.new.now start end kept ran.reads.items h sound

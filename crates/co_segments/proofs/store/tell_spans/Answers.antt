@@ -1,16 +1,19 @@
-use Rattle.std.proofs.Common.{arith, refl, sym, ap, ◌∙◌, ◌<◌, ◌≡◌, ◌++◌, ◌+◌, ◌-◌, ◌∷◌, take}
+use Rattle.std.proofs.Common.{arith, refl, sym, ap, ◌∙◌, ◌<◌, ◌≤◌, ◌≡◌, ◌+◌, ◌-◌}
 use Rattle.std.proofs.lemmas.Bool.{false≢true}
 use Rattle.std.proofs.lemmas.List.{append-nil}
+use Rattle.image_parts.specs.Asking.{outcome}
 use Rattle.image_parts.proofs.LoopLemmas.{turned_told}
 use Rattle.can_bus.specs.Spans.{span}
 use Rattle.can_bus.specs.Bus.{blank_bus}
 use Rattle.trace_spans.proofs.SpanLemmas.{span_ready}
 use Rattle.co_segments.specs.declared.stock.Stock.{Stock}
-use Rattle.co_segments.specs.Placed.{Numbered}
+use Rattle.co_segments.specs.Placed.{Numbered, kept_of}
+use Rattle.co_segments.specs.Progress.{progress, state_of}
+use Rattle.co_segments.specs.Segments.{Advances, at_power_on, recorded_from, recorded_of}
 use Rattle.co_segments.specs.Stocks.{held_in}
-use Rattle.co_segments.proofs.RecordedLemmas.{recorded_served}
+use Rattle.co_segments.proofs.RecordedLemmas.{recorded_left}
 use Rattle.co_segments.proofs.StockLemmas.{segments_fewer, segments_from_told, segments_later, told_new}
-use Rattle.co_segments.proofs.ValidLemmas.{traced_more}
+use Rattle.co_segments.proofs.TracedLemmas.{advances_gives, traced_more}
 use Rattle.co_segments.proofs.WindowLemmas.{none_left}
 use Rattle.co_segments.proofs.store.tell_spans.Goals as goal
 
@@ -46,15 +49,11 @@ loop-number-init g c =
     let whole : c.args.count - 0 ≡ c.args.count = omega arith in
     record {
       lines = rw (telling.told, bus, whole) refl;
-      traced = rw entries (
+      traced = (
         0,
         (
-          0,
-          (
-            (bus, refl, telling.told, refl, refl),
-            ((omega arith, omega arith), refl),
-            omega arith,
-          ),
+          λ i. record { bus = bus i; held = kept_of (entries i); told = telling.told i; work = c.args.meter.now; read = 0 },
+          rw entries (omega arith),
         ),
       );
       ready = λ h. absurd (omega (arith, h));
@@ -89,37 +88,25 @@ loop-number-preserved g c =
     let here = c.loop-number.here.state.bus in
     let after = c.in_ok-end.end.state.bus in
     let capacity = c.args.stock.now.recent.capacity in
-    let begun = held_in c.args.stock.now in
-    let before = held_in c.loop-number.stock in
-    let later = held_in c.advance.new.stock in
-    let told = c.loop-number.telling.told in
-    let more = c.advance.new.telling.told in
+    let start = at_power_on (held_in c.args.stock.now) c.args.meter.now in
     let e = c.in_ok-end.ensures in
-    let a = e.advances in
-    let is = rw old.kept at a.served in
-    let gives = is.gives in
+    let before = progress c.loop-number.stock c.loop-number.telling c.loop-number.meter c.loop-number.parts in
+    let later = progress c.advance.new.stock c.advance.new.telling c.advance.new.meter c.advance.new.parts in
+    let next = state_of after later e.read in
+    let is : Advances image capacity number (state_of here before 0) next = rw (old.kept, old.capacity) at e.advances in
+    let gives = advances_gives image capacity number (state_of here before 0) next is in
+    let turned : after ≡ (outcome (span number here) image).0 = gives.0 in
     let within : number < c.args.count = omega arith in
-    let end : after ≡ a.kept.end = a.end_is in
-    let turned = end ∙ sym (ap (λ r. r.0) gives) in
-    let told_is : more ≡ told ++ a.kept.lines = a.told_is in
-    let held : later ≡ take capacity (a.kept ∷ a.rest) = rw old.capacity at a.held_is in
-    let left = recorded_served image before number here a.kept a.rest a.ran a.read capacity is in
+    let left : recorded_from (number + 1) (held_in later.stock) + recorded_of number (held_in before.stock)
+    ≤ recorded_from number (held_in before.stock) = recorded_left image capacity number (state_of here before 0) next is in
     record {
-      lines = turned_told span number c.args.count here after image within turned told more
-          (told_is ∙ ap (λ r. told ++ r.1) (sym gives)) ∙ old.lines;
+      lines = turned_told span number c.args.count here after image within turned before.telling.told later.telling.told
+          gives.1 ∙ old.lines;
       traced = (
-        old.traced.0 + a.ran,
+        old.traced.0 + e.read,
         (
-          old.traced.1.0 + a.read,
-          (
-            traced_more image capacity begun number here after before later told more old.traced.0 old.traced.1.0 a.kept
-                a.rest a.ran a.read old.traced.1.1.0 is end held told_is,
-            (
-              (omega (arith, old.traced.1.1.1.0.0, a.run.0.0), omega (arith, old.traced.1.1.1.0.1, a.run.0.1)),
-              a.run.1 ∙ old.traced.1.1.1.1,
-            ),
-            rw held (omega (arith, old.traced.1.1.2, a.counted, c.let_go.ensures.asks, left)),
-          ),
+          traced_more image capacity start number (state_of here before old.traced.0) next old.traced.1.0 is,
+          omega (arith, old.traced.1.1, e.counted, c.let_go.ensures.asks, left),
         ),
       );
       ready = λ h. rw turned (span_ready image c.requires.image number here old.ready);
@@ -139,18 +126,14 @@ returns-clause-lines g c =
     let e = none_left image c.loop-number.number c.args.count c.loop-number.here.state.bus c.loop-number-test.false in
     sym (append-nil c.loop-number.telling.told) ∙ (rw e at old.lines)
 
-pub returns-clause-traces : goal.returns-clause-traces
-returns-clause-traces g c =
+pub returns-clause-traced : goal.returns-clause-traced
+returns-clause-traced g c =
     let old = c.loop-number.invariant in
     let all : c.loop-number.number ≡ c.args.count = omega arith in
-    record {
-      end = c.loop-number.here.state.bus;
-      ran = old.traced.0;
-      read = old.traced.1.0;
-      traced = rw (← all) old.traced.1.1.0;
-      run = old.traced.1.1.1;
-      counted = omega (arith, old.traced.1.1.2);
-    }
+    let last = progress c.loop-number.stock c.loop-number.telling c.loop-number.meter c.loop-number.parts in (
+      state_of c.loop-number.here.state.bus last old.traced.0,
+      (rw (← all) old.traced.1.0, refl, refl, refl, omega (arith, old.traced.1.1)),
+    )
 
 pub returns-clause-segments : goal.returns-clause-segments
 returns-clause-segments g c =

@@ -1,10 +1,11 @@
-use Rattle.std.proofs.Common.{◌∙◌, ◌+◌, ◌/◌, ap, arith, subst, sym}
+use Rattle.std.proofs.Common.{ℕ, ◌∙◌, ◌+◌, ◌/◌, ap, arith, subst, sym}
 use Rattle.pdo_choices.proofs.RangeLemmas.{between}
 use Rattle.can_bus.specs.Runs.{trace}
+use Rattle.image_parts.specs.Contents.{Image}
 use Rattle.image_parts.specs.Images.{IsImage}
 use Rattle.network_image.specs.Image.{image_of}
 use Rattle.network_image.proofs.CoherentLemmas.{is_image}
-use Rattle.co_segments.specs.Segments.{Traced}
+use Rattle.co_segments.specs.Segments.{Traced, at_power_on}
 use Rattle.workbench.specs.Queries.{trace_of}
 use Rattle.workbench.proofs.tracing.traced.Goals as goal
 
@@ -30,23 +31,7 @@ pub returns-clause-traced : goal.returns-clause-traced
 returns-clause-traced c =
     let traced = c.in_ok-told.ensures.traced in
     let image = ap (λ s. s.image) c.of-parts.ensures.seen ∙ c.requires in
-    let told = subst (λ i. Traced i c.args.store.now.capacity c.args.store.now.segments
-    (c.horizon-horizon.result / 10000 + 1) traced.0 c.trace_text.new.self.segments traced.1.0 traced.1.1.0 traced.1.1.1.0)
-    image traced.1.1.1.1.0 in (
-      traced.0,
-      (
-        traced.1.0,
-        (
-          traced.1.1.0,
-          (
-            traced.1.1.1.0,
-            (
-              subst (λ horizon. Traced (image_of c.args.project.now) c.args.store.now.capacity c.args.store.now.segments
-                  (horizon / 10000 + 1) traced.0 c.trace_text.new.self.segments traced.1.0 traced.1.1.0 traced.1.1.1.0)
-                  c.horizon-horizon.ensures told,
-              traced.1.1.1.1.1,
-            ),
-          ),
-        ),
-      ),
-    )
+    let start = at_power_on c.args.store.now.segments c.args.meter.now in
+    let told = subst (λ (u : Image × ℕ). Traced u.0 c.args.store.now.capacity start (u.1 / 10000 + 1) traced.0)
+    (λ i. (image i, c.horizon-horizon.ensures i)) traced.1.0 in
+    (traced.0, (told, traced.1.1, traced.1.2))

@@ -17,8 +17,7 @@ returns-clause-lines g c =
 
 pub returns-clause-traced : goal.returns-clause-traced
 returns-clause-traced g c =
-    let t = c.in_ok-told.ensures.traces in
+    let t = c.in_ok-told.ensures.traced in
     let count : c.from.result / 10000 + 1 ≡ c.args.horizon / 10000 + 1 = windows c.from.ensures in
-    let traced = rw count at t.traced in
     rw (← c.self.view_is)
-    (t.end, (c.in_ok-told.told, (t.ran, (t.read, (traced, t.run, rw c.take_asked-asked.ensures.asks t.counted)))))
+    (t.0, (rw count at t.1.0, t.1.1, t.1.3, rw c.take_asked-asked.ensures.asks t.1.4))

@@ -6,11 +6,9 @@ returns-clause-traces c =
     rw (← c.self.view_is) record {
       between = c.refresh_all.new.meter;
       end = traced.0;
-      told = traced.1.0;
-      ran = traced.1.1.0;
-      read = traced.1.1.1.0;
       parts = c.in_ok-refresh_all.ensures.brings;
-      traced = traced.1.1.1.1.0;
-      run = traced.1.1.1.1.1;
+      traced = traced.1.0;
+      store = traced.1.1;
+      work = traced.1.2;
       capacity = c.traced.ensures.capacity;
     }
