@@ -1,38 +1,17 @@
 //! All that is wrong with a project, found by what is kept of it, and brought up to date.
 ghost use Rattle.std.specs.Prelude.{◌≡◌, ◌↔◌, IfOk, IsTrue, OnOk, Some};
-ghost use Rattle.co_diag.specs.Found.{diagnostics_of};
 ghost use Rattle.kept_values.specs.Stale.{AreBrought};
 ghost use Rattle.kept_values.specs.Work.{Rises};
 ghost use Rattle.project_parts.specs.Given.{inputs_of, same_part, whole};
 ghost use Rattle.project_parts.specs.Reached.{parts_for};
-ghost use Rattle.project_plan.specs.Network.{plan_of_project};
 ghost use Rattle.kept_parts.specs.Kept.{kept_inputs, IsOf};
 
 use crate::kept_parts::KeptParts;
-use base::Shared;
-use co_diag::{FoundBefore, diagnostics_by};
 use co_project::Project;
 use kept_values::Meter;
-use pdo_plan::Plan;
-use project_parts::{Diagnostics, DiagnosticsNow, Part};
+use project_parts::{DiagnosticsNow, Part};
 use project_plan::Library;
-use std::alloc::{AllocError, Global};
-
-/// Finds the diagnostics of a library's project, by the plan of its messages, and what was found the last time of nodes
-/// that didn't change.
-fn find(
-    alloc: Global,
-    library: &mut Library<'_>,
-    plan: &Plan,
-    before: &mut FoundBefore,
-) -> Result<Shared<Diagnostics>, AllocError>
-    requires { plan.now ≡ plan_of_project library.old.project }
-    ensures { IfOk result (λ d. d ≡ diagnostics_of library.old.project) }
-{
-    let list = diagnostics_by(alloc, library, plan, before)?;
-    let found = Diagnostics::new(alloc, list)?;
-    Shared::new(alloc, found)
-}
+use std::alloc::AllocError;
 
 impl KeptParts {
     /// Adds the device of an EDS to a library, where it is kept as it is now.
@@ -94,7 +73,7 @@ impl KeptParts {
             return Ok(());
         }
         let mut library = self.library(project)?;
-        let found = find(self.alloc, &mut library, plan.get(), &mut self.found_before)?;
+        let found = self.remembered.find(self.alloc, &mut library, plan.get())?;
         self.found
             .build(self.alloc, DiagnosticsNow { project, found }, meter)?;
         Ok(())

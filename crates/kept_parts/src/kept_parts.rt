@@ -11,8 +11,8 @@ ghost use Rattle.project_parts.specs.Reached.{parts_for, reached_by_trace, IsPar
 ghost use Rattle.kept_parts.specs.Kept.{kept_inputs, IsCurrent, IsOf};
 ghost use Rattle.kept_parts.specs.Left.{left_of, IsSwept};
 
+use crate::remembered::Remembered;
 use base::{ListedBytes, ListedText, Shared};
-use co_diag::FoundBefore;
 use co_project::Project;
 use image_parts::Roster;
 use kept_values::{Memo, Meter, Shelf};
@@ -39,8 +39,8 @@ pub struct KeptParts {
     pub(crate) windows: WindowShelf,
     pub(crate) found: Memo<DiagnosticsFrom, Shared<Diagnostics>>,
 
-    /// What diagnostics found before of what may not have changed: no part, and of no answer.
-    pub(crate) found_before: FoundBefore,
+    /// What diagnostics found before: no part, and of no answer.
+    pub(crate) remembered: Remembered,
 
     /// Whether it is known that nothing is held of what the project doesn't have.
     pub(crate) swept: bool,
@@ -63,7 +63,7 @@ impl KeptParts {
             nodes: Shelf::new(alloc),
             windows: WindowShelf::new(alloc),
             found: Memo::new(),
-            found_before: FoundBefore::new(alloc),
+            remembered: Remembered::new(alloc),
             swept: false,
         }
     }

@@ -9,6 +9,7 @@ mod kept_parts;
 mod leaving;
 mod network;
 mod of_now;
+mod remembered;
 mod simulation;
 mod touching;
 
