@@ -1,5 +1,5 @@
 -- What contracts see of a workbench, and what bringing parts up to date does to it.
-use Rattle.std.specs.Prelude.{◌≡◌, ℕ, ◌+◌, ◌/◌, [], refl}
+use Rattle.std.specs.Prelude.{◌≡◌, ℕ, ◌+◌, ◌/◌, List, [], refl}
 use Rattle.std.specs.Coded.{Coded, code_by, coded×}
 use Rattle.co_project.specs.Project.{Content}
 use Rattle.co_segments.specs.Segments.{HeldSegments, TraceState, Traced, at_power_on}
